@@ -1,0 +1,16 @@
+pub mod Bits
+pub mod Levels
+pub mod Refusals
+pub mod Sheets
+pub mod Records
+pub mod Protection
+pub mod Commands
+pub mod Sessions
+pub mod Rises
+pub mod Falls
+pub mod Ends
+pub mod Samples
+pub mod Chips
+pub mod Calls
+pub mod Kept
+pub mod Mode0

@@ -1,0 +1,5 @@
+pub mod Bits
+pub mod Simulation
+pub mod Follow
+pub mod Stays
+pub mod Apart

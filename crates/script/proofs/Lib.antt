@@ -1,0 +1,6 @@
+pub mod Parse
+pub mod Sofar
+pub mod Faults
+pub mod Going
+pub mod Whole
+pub mod Exact
