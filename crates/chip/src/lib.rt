@@ -4,4 +4,3 @@ mod selection;
 
 pub use chip::Chip;
 pub use chip::ParkedChip;
-pub use selection::Selection;

@@ -2,9 +2,11 @@
 use mathlib.Core.Path.{_≡_}
 use mathlib.Core.Bool.{Bool, true, _&&_}
 use mathlib.Core.List.{List, [], _∷_, map}
-use Prim.Native.Nat.{ℕ, _-_}
+use Prim.Native.Nat.{ℕ}
 use lib.Dec.{lit≤}
-use lib.ListN.{set, take, getD, replicate}
+use lib.ListN.{set, take, replicate}
+use Rattle.std.specs.declared.option.Option.{Option}
+use Rattle.std.specs.declared.option.Option.the-variants.{Some, None}
 use Rattle.std.specs.shelf.Text.{sameBytes}
 use Rattle.datasheet.specs.declared.sheet.Sheet.{Sheet}
 use Rattle.datasheet.specs.Bits.{bit}
@@ -31,37 +33,44 @@ zeros part = replicate (cells (sheetOf part)) 0
 abbrev pub bitsSent : Session → List Bool
 bitsSent s = take (s .bits) (bitsOfBytes (s .bytes))
 
+-- the chip after a session, where there is one
+abbrev pub sentTo : Chip (List Bool) → Option Session → Chip (List Bool)
+sentTo c (Some s) = run whole c (session (bitsSent s))
+sentTo c None = c
+
 -- the chip after these sessions
-abbrev pub sentTo : Chip (List Bool) → List Session → Chip (List Bool)
-sentTo c [] = c
-sentTo c (s ∷ rest) = sentTo (run whole c (session (bitsSent s))) rest
+abbrev pub allSentTo : Chip (List Bool) → List (Option Session) → Chip (List Bool)
+allSentTo c [] = c
+allSentTo c (s ∷ rest) = allSentTo (sentTo c s) rest
+
+-- a memory after a change, where there is one
+abbrev pub changedBy : List ℕ → Option Change → List ℕ
+changedBy memory (Some x) = set memory (x .cell) (x .byte)
+changedBy memory None = memory
 
 -- a memory after these changes
-abbrev pub changedBy : List ℕ → List Change → List ℕ
-changedBy memory [] = memory
-changedBy memory (x ∷ rest) = changedBy (set memory (x .cell) (x .byte)) rest
+abbrev pub allChangedBy : List ℕ → List (Option Change) → List ℕ
+allChangedBy memory [] = memory
+allChangedBy memory (x ∷ rest) = allChangedBy (changedBy memory x) rest
 
--- the chip of a row, just powered
-abbrev pub start : Case → Chip (List Bool)
-start r = powered (sheetOf (r .part)) (zeros (r .part)) (r .stored)
-
--- the last session of a row is read; those before it are only sent
-abbrev pub lastOf : Case → Session
-lastOf r = getD (r .sent) (r .sessions - 1) (record { bytes = []; bits = 0 })
+-- the chip of a row before its last session
+abbrev pub ready : Case → Chip (List Bool)
+ready r = allSentTo (powered (sheetOf (r .part)) (zeros (r .part)) (r .stored)) (r .before)
 
 -- the bits that are read in the last session
 abbrev pub bitsRead : Case → List Bool
-bitsRead r = readAtRises (answers whole (sentTo (start r) (take (r .sessions - 1) (r .sent))) (session (bitsSent (lastOf r))))
+bitsRead r = readAtRises (answers whole (ready r) (session (bitsSent (r .last))))
 
--- the memory after all sessions
+-- the memory after the last session
 abbrev pub memoryLeft : Case → List ℕ
-memoryLeft r = sentTo (start r) (take (r .sessions) (r .sent)) .rec .memory
+memoryLeft r = sentTo (ready r) (Some (r .last)) .rec .memory
 
--- the bits that are read are those of the bytes that must be seen, and the memory has the changes of the row and no other
+-- the bits that are read are those of the bytes that must be seen, and the memory has the changes of the row and no other;
+-- two bits are compared as numbers
 abbrev pub right : Case → Bool
 right r =
-    sameBytes (map bit (bitsRead r)) (map bit (bitsOfBytes (take (r .bytes) (r .seen))))
-    && sameBytes (memoryLeft r) (changedBy (zeros (r .part)) (take (r .changes) (r .changed)))
+    sameBytes (map bit (bitsRead r)) (map bit (take (r .last .bits) (bitsOfBytes (r .seen))))
+    && sameBytes (memoryLeft r) (allChangedBy (zeros (r .part)) (r .changed))
 
 abbrev pub Right : Case → Type 0
 Right r = right r ≡ true

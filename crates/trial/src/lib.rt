@@ -26,33 +26,31 @@ pub struct Change {
     pub byte: u8,
 }
 
-// A row: the part, powered over a memory of zeros with these stored bits; the sessions sent to it, one after the other,
-// from the front of `sent`; the bytes that must be read in the last of them; and the cells that must have changed.
+// A row: the part, powered over a memory of zeros with these stored bits; two sessions that are sent to it first, as far as
+// they are there; the last session, and the bytes that must be read in it; and the cells that must have changed then.
 #[derive(Clone, Copy, Drop)]
 pub struct Case {
     pub part: Part,
     pub stored: u8,
-    pub sent: [Session; 3],
-    pub sessions: usize,
+    pub before: [Option<Session>; 2],
+    pub last: Session,
     pub seen: [u8; 5],
-    pub bytes: usize,
-    pub changed: [Change; 2],
-    pub changes: usize,
+    pub changed: [Option<Change>; 2],
 }
-
-const NONE: Session = Session {
-    bytes: [0, 0, 0, 0, 0],
-    bits: 0,
-};
 
 const WREN: Session = Session {
     bytes: [0x06, 0, 0, 0, 0],
     bits: 8,
 };
 
-const SLEEP: Session = Session {
-    bytes: [0xB9, 0, 0, 0, 0],
-    bits: 8,
+const WREN_SEVEN_BITS: Session = Session {
+    bytes: [0x06, 0, 0, 0, 0],
+    bits: 7,
+};
+
+const WRSR_8C: Session = Session {
+    bytes: [0x01, 0x8C, 0, 0, 0],
+    bits: 16,
 };
 
 const RDSR: Session = Session {
@@ -60,193 +58,157 @@ const RDSR: Session = Session {
     bits: 16,
 };
 
-const SAME: Change = Change { cell: 0, byte: 0 };
+const SLEEP: Session = Session {
+    bytes: [0xB9, 0, 0, 0, 0],
+    bits: 8,
+};
+
+const SLEEP_NINE_BITS: Session = Session {
+    bytes: [0xB9, 0, 0, 0, 0],
+    bits: 9,
+};
+
+const WRITE_AT_THE_END: Session = Session {
+    bytes: [0x02, 0x1F, 0xFF, 0xAA, 0xBB],
+    bits: 40,
+};
+
+const READ_AT_THE_END: Session = Session {
+    bytes: [0x03, 0x1F, 0xFF, 0, 0],
+    bits: 40,
+};
+
+const WRITE_AT_THE_EDGE: Session = Session {
+    bytes: [0x02, 0x17, 0xFF, 0xAA, 0xBB],
+    bits: 40,
+};
+
+const READ_AT_THE_EDGE: Session = Session {
+    bytes: [0x03, 0x17, 0xFF, 0, 0],
+    bits: 40,
+};
+
+const WRITE_FIFTEEN_BITS: Session = Session {
+    bytes: [0x02, 0x00, 0x10, 0xAA, 0xBB],
+    bits: 39,
+};
+
+const READ_FIFTEEN_BITS: Session = Session {
+    bytes: [0x03, 0x00, 0x10, 0, 0],
+    bits: 40,
+};
+
+const NO_CHANGE: [Option<Change>; 2] = [None, None];
 
 // WREN, WRSR 8Ch, RDSR: the latch stays on an MB85RS64VY
 const LATCH_KEPT: Case = Case {
     part: Part::Mb85rs64vy,
     stored: 0,
-    sent: [
-        WREN,
-        Session {
-            bytes: [0x01, 0x8C, 0, 0, 0],
-            bits: 16,
-        },
-        RDSR,
-    ],
-    sessions: 3,
+    before: [Some(WREN), Some(WRSR_8C)],
+    last: RDSR,
     seen: [0xFF, 0x8E, 0, 0, 0],
-    bytes: 2,
-    changed: [SAME, SAME],
-    changes: 0,
+    changed: NO_CHANGE,
 };
 
 // and falls on an MB85RS256B
 const LATCH_DROPPED: Case = Case {
     part: Part::Mb85rs256b,
     stored: 0,
-    sent: [
-        WREN,
-        Session {
-            bytes: [0x01, 0x8C, 0, 0, 0],
-            bits: 16,
-        },
-        RDSR,
-    ],
-    sessions: 3,
+    before: [Some(WREN), Some(WRSR_8C)],
+    last: RDSR,
     seen: [0xFF, 0x8C, 0, 0, 0],
-    bytes: 2,
-    changed: [SAME, SAME],
-    changes: 0,
+    changed: NO_CHANGE,
 };
 
 // WRITE of two bytes at the last cell: the second goes to cell 0
 const ROLLS_OVER: Case = Case {
     part: Part::Mb85rs64vy,
     stored: 0,
-    sent: [
-        WREN,
-        Session {
-            bytes: [0x02, 0x1F, 0xFF, 0xAA, 0xBB],
-            bits: 40,
-        },
-        Session {
-            bytes: [0x03, 0x1F, 0xFF, 0, 0],
-            bits: 40,
-        },
-    ],
-    sessions: 3,
+    before: [Some(WREN), Some(WRITE_AT_THE_END)],
+    last: READ_AT_THE_END,
     seen: [0xFF, 0xFF, 0xFF, 0xAA, 0xBB],
-    bytes: 5,
     changed: [
-        Change {
+        Some(Change {
             cell: 0x1FFF,
             byte: 0xAA,
-        },
-        Change {
+        }),
+        Some(Change {
             cell: 0,
             byte: 0xBB,
-        },
+        }),
     ],
-    changes: 2,
 };
 
 // WRITE across the edge of a protected quarter: the cell behind the edge is unchanged
 const PROTECTED_EDGE: Case = Case {
     part: Part::Mb85rs64vy,
     stored: 0x04,
-    sent: [
-        WREN,
-        Session {
-            bytes: [0x02, 0x17, 0xFF, 0xAA, 0xBB],
-            bits: 40,
-        },
-        Session {
-            bytes: [0x03, 0x17, 0xFF, 0, 0],
-            bits: 40,
-        },
-    ],
-    sessions: 3,
+    before: [Some(WREN), Some(WRITE_AT_THE_EDGE)],
+    last: READ_AT_THE_EDGE,
     seen: [0xFF, 0xFF, 0xFF, 0xAA, 0],
-    bytes: 5,
     changed: [
-        Change {
+        Some(Change {
             cell: 0x17FF,
             byte: 0xAA,
-        },
-        SAME,
+        }),
+        None,
     ],
-    changes: 1,
 };
 
 // fifteen data bits change one cell
 const FIFTEEN_BITS: Case = Case {
     part: Part::Mb85rs64vy,
     stored: 0,
-    sent: [
-        WREN,
-        Session {
-            bytes: [0x02, 0x00, 0x10, 0xAA, 0xBB],
-            bits: 39,
-        },
-        Session {
-            bytes: [0x03, 0x00, 0x10, 0, 0],
-            bits: 40,
-        },
-    ],
-    sessions: 3,
+    before: [Some(WREN), Some(WRITE_FIFTEEN_BITS)],
+    last: READ_FIFTEEN_BITS,
     seen: [0xFF, 0xFF, 0xFF, 0xAA, 0],
-    bytes: 5,
     changed: [
-        Change {
+        Some(Change {
             cell: 0x0010,
             byte: 0xAA,
-        },
-        SAME,
+        }),
+        None,
     ],
-    changes: 1,
 };
 
 // seven bits of WREN leave the latch 0
 const SEVEN_BITS: Case = Case {
     part: Part::Mb85rs64vy,
     stored: 0,
-    sent: [
-        Session {
-            bytes: [0x06, 0, 0, 0, 0],
-            bits: 7,
-        },
-        RDSR,
-        NONE,
-    ],
-    sessions: 2,
+    before: [None, Some(WREN_SEVEN_BITS)],
+    last: RDSR,
     seen: [0xFF, 0x00, 0, 0, 0],
-    bytes: 2,
-    changed: [SAME, SAME],
-    changes: 0,
+    changed: NO_CHANGE,
 };
 
 // SLEEP with nine bits does not sleep
 const NINE_BITS: Case = Case {
     part: Part::Mb85rs64vy,
     stored: 0,
-    sent: [
-        Session {
-            bytes: [0xB9, 0, 0, 0, 0],
-            bits: 9,
-        },
-        RDSR,
-        NONE,
-    ],
-    sessions: 2,
+    before: [None, Some(SLEEP_NINE_BITS)],
+    last: RDSR,
     seen: [0xFF, 0x00, 0, 0, 0],
-    bytes: 2,
-    changed: [SAME, SAME],
-    changes: 0,
+    changed: NO_CHANGE,
 };
 
 // asleep, RDSR answers FF FF
 const ASLEEP: Case = Case {
     part: Part::Mb85rs64vy,
     stored: 0,
-    sent: [SLEEP, RDSR, NONE],
-    sessions: 2,
+    before: [None, Some(SLEEP)],
+    last: RDSR,
     seen: [0xFF, 0xFF, 0, 0, 0],
-    bytes: 2,
-    changed: [SAME, SAME],
-    changes: 0,
+    changed: NO_CHANGE,
 };
 
 // a second RDSR answers FF 00
 const AWAKE_AGAIN: Case = Case {
     part: Part::Mb85rs64vy,
     stored: 0,
-    sent: [SLEEP, RDSR, RDSR],
-    sessions: 3,
+    before: [Some(SLEEP), Some(RDSR)],
+    last: RDSR,
     seen: [0xFF, 0x00, 0, 0, 0],
-    bytes: 2,
-    changed: [SAME, SAME],
-    changes: 0,
+    changed: NO_CHANGE,
 };
 
 // A row of the table: by the definitions its chip shows and keeps what the row says.
@@ -274,8 +236,11 @@ mod tests {
     use chip::ParkedChip;
     use datasheet::Level;
     use datasheet::LevelPartialEq;
+    use datasheet::Marks;
+    use datasheet::Refusal;
     use datasheet::RefusalDebug;
     use datasheet::Sheet;
+    use script::chip_visit;
     use std::test::*;
 
     const ROWS: usize = 9;
@@ -309,6 +274,16 @@ mod tests {
         Ok(read)
     }
 
+    // Sends all sessions of a row, and answers the bytes that are read in the last of them.
+    fn send_all(chip: &mut Chip<'_>, case: &Case) -> Result<[u8; 5], Fail> {
+        for before in case.before {
+            if let Some(session) = before {
+                let _ = put_session(chip, &session)?;
+            }
+        }
+        put_session(chip, &case.last)
+    }
+
     // Sends the sessions of a row to a chip over a memory of zeros, and looks at what is read and kept.
     fn run_case(case: &Case) -> Result<(), Fail> {
         let sheet = match case.part {
@@ -319,24 +294,18 @@ mod tests {
         let mut space = [0; 0x8000];
         let memory = &mut space[0..cells];
         let mut chip = ParkedChip::new(sheet, case.stored).power(memory);
-        let mut read = [0; 5];
-        for session in case.sent.iter().take(case.sessions) {
-            read = match put_session(&mut chip, session) {
-                Ok(bytes) => bytes,
-                Err(fail) => {
-                    let _ = chip.power_off().into_parts();
-                    return Err(fail);
-                }
-            };
-        }
+        let sent = send_all(&mut chip, case);
         let _ = chip.power_off().into_parts();
-        for i in 0..case.bytes.min(5) {
+        let read = sent?;
+        for i in 0..(case.last.bits / 8).min(5) {
             check_eq(read[i], case.seen[i])?;
         }
-        for change in case.changed.iter().take(case.changes) {
-            check(change.cell < memory.len())?;
-            check_eq(memory[change.cell], change.byte)?;
-            memory[change.cell] = 0;
+        for change in case.changed {
+            if let Some(Change { cell, byte }) = change {
+                check(cell < memory.len())?;
+                check_eq(memory[cell], byte)?;
+                memory[cell] = 0;
+            }
         }
         for byte in memory.iter() {
             check_eq(*byte, 0)?;
@@ -351,5 +320,58 @@ mod tests {
             run_case(&case)?;
         }
         check(case_at(ROWS).is_none())
+    }
+
+    // The number of a refusal, 0 where nothing was refused.
+    fn number<T: Drop>(result: Result<T, Refusal>) -> u8 {
+        match result {
+            Ok(_) => 0,
+            Err(refusal) => refusal.number(),
+        }
+    }
+
+    // What a run of this script on a blank chip is refused by, with nine bytes of answer buffer for each of `room` steps.
+    fn run_refused(script: &[u8], room: usize) -> u8 {
+        let mut buffer = [0; 36];
+        let mut memory = [0; 16];
+        let parked = ParkedChip::new(Sheet::mb85rs64vy(0, 0x02), 0);
+        let (result, parked) = chip_visit(
+            parked,
+            &mut memory,
+            script,
+            &mut buffer[0..9 * room.min(4)],
+        );
+        let _ = parked.into_parts();
+        number(result)
+    }
+
+    #[test]
+    fn calls_are_refused_by_their_numbers() -> Result<(), Fail> {
+        let marks = Marks {
+            drop: false,
+            sleep: false,
+            fast: false,
+        };
+        check_eq(number(Sheet::new(0x20, 0, marks)), 1)?;
+        check_eq(number(Sheet::new(0x05, 0, marks)), 0)?;
+        let sheet = Sheet::mb85rs64vy(0, 0x02);
+        check_eq(number(sheet.check_memory(&[0; 8191])), 2)?;
+        check_eq(number(sheet.check_memory(&[0; 8192])), 0)?;
+        check_eq(run_refused(&[0x02, 0x09], 4), 8)?;
+        check_eq(run_refused(&[0x02, 0x01], 4), 9)?;
+        check_eq(run_refused(&[0x02, 0x02], 1), 10)?;
+        check_eq(run_refused(&[0x02, 0x02], 2), 0)
+    }
+
+    #[test]
+    fn a_blank_chip_shows_and_changes_nothing() -> Result<(), Fail> {
+        let mut memory = [0x5A; 3];
+        let mut chip = ParkedChip::new(Sheet::mb85rs64vy(0, 0x02), 0).power(&mut memory);
+        let sent = put_session(&mut chip, &WRITE_AT_THE_END);
+        let refused = number(chip.sample(0x20));
+        let _ = chip.power_off().into_parts();
+        check_eq(sent?, [0xFF; 5])?;
+        check_eq(refused, 3)?;
+        check_eq(memory, [0x5A; 3])
     }
 }

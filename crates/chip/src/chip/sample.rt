@@ -3,7 +3,7 @@ ghost use mathlib.Core.Path.{_≡_};
 ghost use mathlib.Core.Bool.{cond};
 ghost use Prim.Native.Nat.{_≤_};
 ghost use denote.Ref.{name};
-ghost use Rattle.datasheet.specs.Chips.{turn, judged, output};
+ghost use Rattle.datasheet.specs.Chips.{whole, turn, judged, output};
 ghost use Rattle.datasheet.specs.Calls.{so, put, sampled, answered};
 ghost use Rattle.datasheet.specs.Kept.{bounded};
 ghost use Rattle.laws.specs.Laws.{Enough, Stays-fitted};
@@ -24,22 +24,16 @@ impl Chip<'_> {
         ensures fitted { λ _. ⌜ now (self .exit) .fitted ≡ now (self .entry) .fitted ⌝ }
         ensures lent { λ _. ⌜ name (now (self .exit) .memory) ≡ name (now (self .entry) .memory) ⌝ }
     {
-        match (self.selection, sample) {
+        let (session, so) = match (self.selection, sample) {
             // still deselected
-            (Selection::Deselected, Sample { cs: true, .. }) => {}
+            (Selection::Deselected, Sample { cs: true, .. }) => return,
             // a session begins
-            (Selection::Deselected, Sample { sck, hold, .. }) => {
-                self.selection = Selection::Selected {
-                    sck,
-                    hold,
-                    session: Registers::cleared(),
-                    so: Level::HighZ,
-                };
-            }
+            (Selection::Deselected, _) => (Registers::cleared(), Level::HighZ),
             // the session ends
             (Selection::Selected { session, .. }, Sample { cs: true, .. }) => {
                 self.end(session);
                 self.selection = Selection::Deselected;
+                return;
             }
             // a rise: SI is taken
             (
@@ -56,15 +50,7 @@ impl Chip<'_> {
                     wp,
                     ..
                 },
-            ) => {
-                let session = self.take(session, si, wp);
-                self.selection = Selection::Selected {
-                    sck: true,
-                    hold: true,
-                    session,
-                    so,
-                };
-            }
+            ) => (self.take(session, si, wp), so),
             // a fall: SO is set
             (
                 Selection::Selected {
@@ -78,25 +64,17 @@ impl Chip<'_> {
                     hold: true,
                     ..
                 },
-            ) => {
-                let so = self.show(session);
-                self.selection = Selection::Selected {
-                    sck: false,
-                    hold: true,
-                    session,
-                    so,
-                };
-            }
+            ) => (session, self.show(session)),
             // no edge counts
-            (Selection::Selected { session, so, .. }, Sample { sck, hold, .. }) => {
-                self.selection = Selection::Selected {
-                    sck,
-                    hold,
-                    session,
-                    so,
-                };
-            }
-        }
+            (Selection::Selected { session, so, .. }, _) => (session, so),
+        };
+        let Sample { sck, hold, .. } = sample;
+        self.selection = Selection::Selected {
+            sck,
+            hold,
+            session,
+            so,
+        };
     }
 
     // SO, as far as it is driven.
@@ -130,7 +108,7 @@ impl Chip<'_> {
         ensures sheet { λ _. ⌜ now (self .exit) .sheet ≡ now (self .entry) .sheet ⌝ }
         ensures lent { λ _. ⌜ name (now (self .exit) .memory) ≡ name (now (self .entry) .memory) ⌝ }
         ensures enough { λ _. ⌜ Enough ⌝ }
-        ensures stays { λ _. ⌜ Stays-fitted bounded ⌝ }
+        ensures stays { λ _. ⌜ Stays-fitted whole ⌝ ∗ ⌜ Stays-fitted bounded ⌝ }
     {
         self.respond(sample)
     }
@@ -144,7 +122,7 @@ impl Chip<'_> {
         ensures sheet { λ _. ⌜ now (self .exit) .sheet ≡ now (self .entry) .sheet ⌝ }
         ensures lent { λ _. ⌜ name (now (self .exit) .memory) ≡ name (now (self .entry) .memory) ⌝ }
         ensures enough { λ _. ⌜ Enough ⌝ }
-        ensures stays { λ _. ⌜ Stays-fitted bounded ⌝ }
+        ensures stays { λ _. ⌜ Stays-fitted whole ⌝ ∗ ⌜ Stays-fitted bounded ⌝ }
     {
         let sample = Sample::from_byte(byte)?;
         Ok(self.put(sample))

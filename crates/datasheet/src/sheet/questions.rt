@@ -1,21 +1,35 @@
 ghost use mathlib.Core.Path.{_≡_};
 ghost use mathlib.Core.Bool.{cond};
-ghost use Prim.Native.Nat.{_<_};
+ghost use Prim.Native.Nat.{_≤_};
 ghost use Rattle.std.specs.declared.result.Result.the-variants.{Ok, Err};
 ghost use Rattle.datasheet.specs.declared.refusal.Refusal.the-variants.{MemoryLength};
-ghost use Rattle.datasheet.specs.Sheets.{Made, Part, cells, fits, identity, thirdByte, marks64vy, marks128ty, marks256b};
+ghost use Rattle.datasheet.specs.Sheets.{Made, Part, cells, fits, identity, marks64vy, marks128ty, marks256b};
 ghost use Rattle.datasheet.specs.Commands.{commandOf};
 use super::Marks;
 use super::Sheet;
 use crate::command::Command;
 use crate::refusal::Refusal;
 
-// The third ID byte of a part: the upper three bits are the caller's, the low five are the density d.
-fn third_byte(upper: u8, d: u8) -> u8
-    requires { ⌜ d < 32 ⌝ }
-    ensures { λ r. ⌜ r ≡ thirdByte upper d ⌝ }
+// The marks of the parts that sleep, and of the fast one.
+const SLEEPS: Marks = Marks {
+    drop: false,
+    sleep: true,
+    fast: false,
+};
+
+const FAST: Marks = Marks {
+    drop: true,
+    sleep: false,
+    fast: true,
+};
+
+// The sheet of a part with density d: the upper three bits of the third ID byte are the caller's.
+fn part(d: u8, marks: Marks, upper: u8, f: u8) -> Sheet
+    requires { ⌜ 1 ≤ d ⌝ ∗ ⌜ d ≤ 5 ⌝ }
+    ensures { λ r. ⌜ Part d marks upper f r ⌝ }
 {
-    upper - upper % 32 + d
+    let t = upper - upper % 32 + d;
+    Sheet { t, f, marks }
 }
 
 impl Sheet {
@@ -33,48 +47,21 @@ impl Sheet {
     pub fn mb85rs64vy(upper: u8, f: u8) -> Sheet
         ensures { λ r. ⌜ Part 3 marks64vy upper f r ⌝ }
     {
-        let marks = Marks {
-            drop: false,
-            sleep: true,
-            fast: false,
-        };
-        Sheet {
-            t: third_byte(upper, 3),
-            f,
-            marks,
-        }
+        part(3, SLEEPS, upper, f)
     }
 
     // The sheet of an MB85RS128TY.
     pub fn mb85rs128ty(upper: u8, f: u8) -> Sheet
         ensures { λ r. ⌜ Part 4 marks128ty upper f r ⌝ }
     {
-        let marks = Marks {
-            drop: false,
-            sleep: true,
-            fast: false,
-        };
-        Sheet {
-            t: third_byte(upper, 4),
-            f,
-            marks,
-        }
+        part(4, SLEEPS, upper, f)
     }
 
     // The sheet of an MB85RS256B.
     pub fn mb85rs256b(upper: u8, f: u8) -> Sheet
         ensures { λ r. ⌜ Part 5 marks256b upper f r ⌝ }
     {
-        let marks = Marks {
-            drop: true,
-            sleep: false,
-            fast: true,
-        };
-        Sheet {
-            t: third_byte(upper, 5),
-            f,
-            marks,
-        }
+        part(5, FAST, upper, f)
     }
 
     // The number of cells of the chip.
