@@ -1,10 +1,21 @@
-// A visit told in text: what is done to a chip at its pins, and what comes out.
+// A visit told in text: what is done to a chip at its pins and to boards, and what comes out.
+use board::Board;
+use board::Plain;
+use board::PlainBoard;
 use chip::Chip;
 use chip::ParkedChip;
 use datasheet::Level;
 use datasheet::LevelPartialEq;
+use datasheet::Refusal;
 use datasheet::Sheet;
+use equality::compare;
+use join::Join;
+use join::JoinBoard;
+use shield::Shield;
+use shield::ShieldBoard;
 use std::io;
+use window::Window;
+use window::WindowBoard;
 
 // The pins as bits of a sample byte.
 const CS: u8 = 0x01;
@@ -250,7 +261,7 @@ fn write_byte(chip: &mut Chip<'_>, cell: u16, byte: u8) {
 }
 
 // Two chips that came to the same record in different ways, and then to different ones.
-fn compare(rt: &LibcRuntime, first: &mut Chip<'_>, second: &mut Chip<'_>) -> io::Result<()> {
+fn two_chips(rt: &LibcRuntime, first: &mut Chip<'_>, second: &mut Chip<'_>) -> io::Result<()> {
     println!(rt, "Two chips get the same two bytes, in different order.")?;
     write_byte(first, 0x0040, 0x5A);
     write_byte(first, 0x0041, 0xC3);
@@ -259,7 +270,8 @@ fn compare(rt: &LibcRuntime, first: &mut Chip<'_>, second: &mut Chip<'_>) -> io:
     tell_apart(rt, first, second)?;
     println!(rt, "The second is put to sleep.")?;
     session(second, &[0xB9], &mut []);
-    tell_apart(rt, first, second)
+    tell_apart(rt, first, second)?;
+    piles(rt, first, second)
 }
 
 // Whether any samples could tell two resting chips apart.
@@ -275,6 +287,114 @@ fn tell_apart(rt: &LibcRuntime, first: &Chip<'_>, second: &Chip<'_>) -> io::Resu
             "  unequal records: some list of samples and power cycles tells them apart"
         )
     }
+}
+
+// Prints whether a call was accepted.
+fn tell_call(rt: &LibcRuntime, what: &str, result: Result<(), Refusal>) -> io::Result<()> {
+    match result {
+        Ok(()) => println!(rt, "  {what}: accepted"),
+        Err(refusal) => {
+            let number = refusal.number();
+            println!(rt, "  {what}: refused by {number}")
+        }
+    }
+}
+
+// Prints the first cells of a board, 24 at the most, and its first fence.
+fn tell_board<B: Board>(rt: &LibcRuntime, board: &mut B) -> io::Result<()> {
+    let mut bytes = [0; 24];
+    let size = board.size();
+    let shown = &mut bytes[..size.min(24)];
+    let read = board.read(0, shown);
+    print!(rt, "  {size} cells:")?;
+    if read.is_ok() {
+        print_bytes(rt, shown)?;
+    }
+    match board.first_fence(0, size) {
+        Ok(Some(place)) => println!(rt, "; the first fence is at {place}"),
+        _ => println!(rt, "; no fence"),
+    }
+}
+
+// Compares two boards, beside two chips, and prints what came out.
+fn tell_equal<P: Board, Q: Board>(
+    rt: &LibcRuntime,
+    first: &Chip<'_>,
+    second: &Chip<'_>,
+    left: &mut P,
+    right: &mut Q,
+) -> io::Result<()> {
+    let same = compare(first, second, left, right);
+    if same.chips {
+        println!(rt, "  the chips: equal")?;
+    } else {
+        println!(rt, "  the chips: unequal")?;
+    }
+    if same.boards {
+        println!(
+            rt,
+            "  the boards: equal, no list of size, fence question, read and write tells them apart"
+        )
+    } else {
+        println!(
+            rt,
+            "  the boards: unequal, some list of size, fence question, read and write tells them apart"
+        )
+    }
+}
+
+// Writes to a shielded board, and widens a range of the shield.
+fn writes<B: Board>(rt: &LibcRuntime, board: &mut Shield<B>) -> io::Result<()> {
+    tell_board(rt, board)?;
+    println!(rt, "The shield fences cells 6 and 7.")?;
+    tell_call(rt, "range from 6 of 2", board.add(6, 2))?;
+    tell_call(rt, "write of 2 bytes at 10", board.write(10, &[0x27, 0x94]))?;
+    tell_call(rt, "write of 2 bytes at 5", board.write(5, &[0x27, 0x9C]))?;
+    println!(
+        rt,
+        "The range is widened by 4, across the seam of the join."
+    )?;
+    tell_call(rt, "range 0 widened by 4", board.widen(0, 4))?;
+    tell_call(rt, "write of 2 bytes at 11", board.write(11, &[0x27, 0xBB]))?;
+    tell_call(rt, "write of 2 bytes at 12", board.write(12, &[0x27, 0xBB]))?;
+    tell_call(rt, "write of 2 bytes at 23", board.write(23, &[0x27, 0xBB]))?;
+    tell_board(rt, board)
+}
+
+// Two piles built differently, that come to hold the same image and then another.
+fn two_piles<B: Board>(
+    rt: &LibcRuntime,
+    first: &Chip<'_>,
+    second: &Chip<'_>,
+    left: &mut B,
+) -> io::Result<()> {
+    println!(
+        rt,
+        "A second pile: 24 bytes of plain memory get the same bytes, and a shield of two ranges."
+    )?;
+    let mut memory = [0; 24];
+    let _ = left.read(0, &mut memory);
+    let mut right = Shield::new(Plain::new(&mut memory));
+    tell_call(rt, "range from 8 of 4", right.add(8, 4))?;
+    tell_call(rt, "range from 6 of 3", right.add(6, 3))?;
+    tell_equal(rt, first, second, left, &mut right)?;
+    println!(rt, "One byte of the second pile is written.")?;
+    tell_call(rt, "write of 1 byte at 0", right.write(0, &[0x01]))?;
+    tell_equal(rt, first, second, left, &mut right)
+}
+
+// A pile of layers over plain memory.
+fn piles(rt: &LibcRuntime, first: &Chip<'_>, second: &Chip<'_>) -> io::Result<()> {
+    println!(
+        rt,
+        "A pile: a shield over a join of a window, eight cells from 4 on of 16 bytes, and 16 bytes more."
+    )?;
+    let mut lower = [0x11; 16];
+    let mut upper = [0x22; 16];
+    let window = Window::new(Plain::new(&mut lower), 4, 8);
+    let mut pile = Shield::new(Join::new(window, Plain::new(&mut upper)));
+    writes(rt, &mut pile)?;
+    two_piles(rt, first, second, &mut pile)
 }
 
 fn main(rt: LibcRuntime) -> io::Result<()> {
@@ -297,7 +417,7 @@ fn main(rt: LibcRuntime) -> io::Result<()> {
     let mut other = memory;
     let mut chip = ParkedChip::new(sheet, stored).power(&mut memory);
     let mut copy = ParkedChip::new(sheet, stored).power(&mut other);
-    let compared = compare(&rt, &mut chip, &mut copy);
+    let compared = two_chips(&rt, &mut chip, &mut copy);
     let _ = chip.power_off().into_parts();
     let _ = copy.power_off().into_parts();
     compared

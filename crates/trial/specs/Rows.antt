@@ -1,10 +1,10 @@
--- What a row of the trial table says, by the rules over the full list of bits.
+-- What a row of the trial table says: of a chip, by the rules over the full list of bits; of a window, by its image.
 use mathlib.Core.Path.{_≡_}
 use mathlib.Core.Bool.{Bool, true, _&&_}
 use mathlib.Core.List.{List, [], _∷_, map}
 use Prim.Native.Nat.{ℕ}
-use lib.Dec.{lit≤}
-use lib.ListN.{set, take, replicate}
+use lib.Dec.{lit≤, eqb}
+use lib.ListN.{length, set, take, replicate}
 use Rattle.std.specs.declared.option.Option.{Option}
 use Rattle.std.specs.declared.option.Option.the-variants.{Some, None}
 use Rattle.std.specs.shelf.Text.{sameBytes}
@@ -14,11 +14,15 @@ use Rattle.datasheet.specs.Sheets.{cells, marks64vy, marks256b}
 use Rattle.datasheet.specs.Chips.{whole}
 use Rattle.datasheet.specs.Calls.{Chip, powered, run, answers}
 use Rattle.datasheet.specs.Mode0.{bitsOfBytes, session, readAtRises}
+use Rattle.image.specs.Layers.{plain, windowed}
 use Rattle.trial.specs.declared.Part.{Part}
 use Rattle.trial.specs.declared.Part.the-variants.{Mb85rs64vy, Mb85rs256b}
 use Rattle.trial.specs.declared.Session.{Session}
 use Rattle.trial.specs.declared.Change.{Change}
+use Rattle.trial.specs.declared.PinCase.{PinCase}
+use Rattle.trial.specs.declared.WindowCase.{WindowCase}
 use Rattle.trial.specs.declared.Case.{Case}
+use Rattle.trial.specs.declared.Case.the-variants.{Pins, Window}
 
 -- the sheets of the parts, with f 02h
 abbrev pub sheetOf : Part → Sheet
@@ -54,23 +58,31 @@ allChangedBy memory [] = memory
 allChangedBy memory (x ∷ rest) = allChangedBy (changedBy memory x) rest
 
 -- the chip of a row before its last session
-abbrev pub ready : Case → Chip (List Bool)
+abbrev pub ready : PinCase → Chip (List Bool)
 ready r = allSentTo (powered (sheetOf (r .part)) (zeros (r .part)) (r .stored)) (r .before)
 
 -- the bits that are read in the last session
-abbrev pub bitsRead : Case → List Bool
+abbrev pub bitsRead : PinCase → List Bool
 bitsRead r = readAtRises (answers whole (ready r) (session (bitsSent (r .last))))
 
 -- the memory after the last session
-abbrev pub memoryLeft : Case → List ℕ
+abbrev pub memoryLeft : PinCase → List ℕ
 memoryLeft r = sentTo (ready r) (Some (r .last)) .rec .memory
 
 -- the bits that are read are those of the bytes that must be seen, and the memory has the changes of the row and no other;
 -- two bits are compared as numbers
-abbrev pub right : Case → Bool
-right r =
+abbrev pub rightPins : PinCase → Bool
+rightPins r =
     sameBytes (map bit (bitsRead r)) (map bit (take (r .last .bits) (bitsOfBytes (r .seen))))
     && sameBytes (memoryLeft r) (allChangedBy (zeros (r .part)) (r .changed))
+
+-- the window of a row, over so many cells of plain memory, has the size of the row
+abbrev pub rightWindow : WindowCase → Bool
+rightWindow r = eqb (length (windowed (r .offset) (r .count) (plain (replicate (r .cells) 0)))) (r .size)
+
+abbrev pub right : Case → Bool
+right (Pins r) = rightPins r
+right (Window r) = rightWindow r
 
 abbrev pub Right : Case → Type 0
 Right r = right r ≡ true

@@ -26,10 +26,10 @@ pub struct Change {
     pub byte: u8,
 }
 
-// A row: the part, powered over a memory of zeros with these stored bits; two sessions that are sent to it first, as far as
+// A row at the pins: the part, powered over a memory of zeros with these stored bits; two sessions that are sent to it first, as far as
 // they are there; the last session, and the bytes that must be read in it; and the cells that must have changed then.
 #[derive(Clone, Copy, Drop)]
-pub struct Case {
+pub struct PinCase {
     pub part: Part,
     pub stored: u8,
     pub before: [Option<Session>; 2],
@@ -101,7 +101,7 @@ const READ_FIFTEEN_BITS: Session = Session {
 const NO_CHANGE: [Option<Change>; 2] = [None, None];
 
 // WREN, WRSR 8Ch, RDSR: the latch stays on an MB85RS64VY
-const LATCH_KEPT: Case = Case {
+const LATCH_KEPT: PinCase = PinCase {
     part: Part::Mb85rs64vy,
     stored: 0,
     before: [Some(WREN), Some(WRSR_8C)],
@@ -111,7 +111,7 @@ const LATCH_KEPT: Case = Case {
 };
 
 // and falls on an MB85RS256B
-const LATCH_DROPPED: Case = Case {
+const LATCH_DROPPED: PinCase = PinCase {
     part: Part::Mb85rs256b,
     stored: 0,
     before: [Some(WREN), Some(WRSR_8C)],
@@ -121,7 +121,7 @@ const LATCH_DROPPED: Case = Case {
 };
 
 // WRITE of two bytes at the last cell: the second goes to cell 0
-const ROLLS_OVER: Case = Case {
+const ROLLS_OVER: PinCase = PinCase {
     part: Part::Mb85rs64vy,
     stored: 0,
     before: [Some(WREN), Some(WRITE_AT_THE_END)],
@@ -140,7 +140,7 @@ const ROLLS_OVER: Case = Case {
 };
 
 // WRITE across the edge of a protected quarter: the cell behind the edge is unchanged
-const PROTECTED_EDGE: Case = Case {
+const PROTECTED_EDGE: PinCase = PinCase {
     part: Part::Mb85rs64vy,
     stored: 0x04,
     before: [Some(WREN), Some(WRITE_AT_THE_EDGE)],
@@ -156,7 +156,7 @@ const PROTECTED_EDGE: Case = Case {
 };
 
 // fifteen data bits change one cell
-const FIFTEEN_BITS: Case = Case {
+const FIFTEEN_BITS: PinCase = PinCase {
     part: Part::Mb85rs64vy,
     stored: 0,
     before: [Some(WREN), Some(WRITE_FIFTEEN_BITS)],
@@ -172,7 +172,7 @@ const FIFTEEN_BITS: Case = Case {
 };
 
 // seven bits of WREN leave the latch 0
-const SEVEN_BITS: Case = Case {
+const SEVEN_BITS: PinCase = PinCase {
     part: Part::Mb85rs64vy,
     stored: 0,
     before: [None, Some(WREN_SEVEN_BITS)],
@@ -182,7 +182,7 @@ const SEVEN_BITS: Case = Case {
 };
 
 // SLEEP with nine bits does not sleep
-const NINE_BITS: Case = Case {
+const NINE_BITS: PinCase = PinCase {
     part: Part::Mb85rs64vy,
     stored: 0,
     before: [None, Some(SLEEP_NINE_BITS)],
@@ -192,7 +192,7 @@ const NINE_BITS: Case = Case {
 };
 
 // asleep, RDSR answers FF FF
-const ASLEEP: Case = Case {
+const ASLEEP: PinCase = PinCase {
     part: Part::Mb85rs64vy,
     stored: 0,
     before: [None, Some(SLEEP)],
@@ -202,7 +202,7 @@ const ASLEEP: Case = Case {
 };
 
 // a second RDSR answers FF 00
-const AWAKE_AGAIN: Case = Case {
+const AWAKE_AGAIN: PinCase = PinCase {
     part: Part::Mb85rs64vy,
     stored: 0,
     before: [Some(SLEEP), Some(RDSR)],
@@ -211,20 +211,55 @@ const AWAKE_AGAIN: Case = Case {
     changed: NO_CHANGE,
 };
 
-// A row of the table: by the definitions its chip shows and keeps what the row says.
+// A row of a window: a window of `count` cells from `offset` on, over plain memory of so many cells, and the size that it
+// must have.
+#[derive(Clone, Copy, Drop)]
+pub struct WindowCase {
+    pub cells: usize,
+    pub offset: usize,
+    pub count: usize,
+    pub size: usize,
+}
+
+// three cells are left behind cell 5 of eight
+const THREE_LEFT: WindowCase = WindowCase {
+    cells: 8,
+    offset: 5,
+    count: 10,
+    size: 3,
+};
+
+// none is left behind the last
+const NONE_LEFT: WindowCase = WindowCase {
+    cells: 8,
+    offset: 8,
+    count: 10,
+    size: 0,
+};
+
+// A row of the table.
+#[derive(Clone, Copy, Drop)]
+pub enum Case {
+    Pins(PinCase),
+    Window(WindowCase),
+}
+
+// A row of the table: by the definitions its chip shows and keeps, or its window has, what the row says.
 pub fn case_at(i: usize) -> Option<Case>
-    ensures { λ r. ⌜ Cases r (9 ≤ i) Right ⌝ }
+    ensures { λ r. ⌜ Cases r (11 ≤ i) Right ⌝ }
 {
     match i {
-        0 => Some(LATCH_KEPT),
-        1 => Some(LATCH_DROPPED),
-        2 => Some(ROLLS_OVER),
-        3 => Some(PROTECTED_EDGE),
-        4 => Some(FIFTEEN_BITS),
-        5 => Some(SEVEN_BITS),
-        6 => Some(NINE_BITS),
-        7 => Some(ASLEEP),
-        8 => Some(AWAKE_AGAIN),
+        0 => Some(Case::Pins(LATCH_KEPT)),
+        1 => Some(Case::Pins(LATCH_DROPPED)),
+        2 => Some(Case::Pins(ROLLS_OVER)),
+        3 => Some(Case::Pins(PROTECTED_EDGE)),
+        4 => Some(Case::Pins(FIFTEEN_BITS)),
+        5 => Some(Case::Pins(SEVEN_BITS)),
+        6 => Some(Case::Pins(NINE_BITS)),
+        7 => Some(Case::Pins(ASLEEP)),
+        8 => Some(Case::Pins(AWAKE_AGAIN)),
+        9 => Some(Case::Window(THREE_LEFT)),
+        10 => Some(Case::Window(NONE_LEFT)),
         _ => None,
     }
 }
@@ -232,6 +267,9 @@ pub fn case_at(i: usize) -> Option<Case>
 #[cfg(test)]
 mod tests {
     use super::*;
+    use board::Board;
+    use board::Plain;
+    use board::PlainBoard;
     use chip::Chip;
     use chip::ParkedChip;
     use datasheet::Level;
@@ -241,9 +279,13 @@ mod tests {
     use datasheet::RefusalDebug;
     use datasheet::Sheet;
     use script::chip_visit;
+    use shield::Shield;
+    use shield::ShieldBoard;
     use std::test::*;
+    use window::Window;
+    use window::WindowBoard;
 
-    const ROWS: usize = 9;
+    const ROWS: usize = 11;
 
     // CS low, with WP and HOLD high; SCK and SI are added.
     const SELECTED: u8 = 0x18;
@@ -275,7 +317,7 @@ mod tests {
     }
 
     // Sends all sessions of a row, and answers the bytes that are read in the last of them.
-    fn send_all(chip: &mut Chip<'_>, case: &Case) -> Result<[u8; 5], Fail> {
+    fn send_all(chip: &mut Chip<'_>, case: &PinCase) -> Result<[u8; 5], Fail> {
         for before in case.before {
             if let Some(session) = before {
                 let _ = put_session(chip, &session)?;
@@ -285,7 +327,7 @@ mod tests {
     }
 
     // Sends the sessions of a row to a chip over a memory of zeros, and looks at what is read and kept.
-    fn run_case(case: &Case) -> Result<(), Fail> {
+    fn run_pins(case: &PinCase) -> Result<(), Fail> {
         let sheet = match case.part {
             Part::Mb85rs64vy => Sheet::mb85rs64vy(0, 0x02),
             Part::Mb85rs256b => Sheet::mb85rs256b(0, 0x02),
@@ -313,11 +355,22 @@ mod tests {
         Ok(())
     }
 
+    // Builds the window of a row, and looks at its size.
+    fn run_window(case: &WindowCase) -> Result<(), Fail> {
+        let mut memory = [0; 16];
+        let plain = Plain::new(&mut memory[0..case.cells.min(16)]);
+        let mut window = Window::new(plain, case.offset, case.count);
+        check_eq(window.size(), case.size)
+    }
+
     #[test]
-    fn the_chip_does_what_the_table_says() -> Result<(), Fail> {
+    fn chip_and_windows_do_what_the_table_says() -> Result<(), Fail> {
         for i in 0..ROWS {
             let case = case_at(i).ok_or("a row is missing")?;
-            run_case(&case)?;
+            match case {
+                Case::Pins(pins) => run_pins(&pins)?,
+                Case::Window(window) => run_window(&window)?,
+            }
         }
         check(case_at(ROWS).is_none())
     }
@@ -373,5 +426,30 @@ mod tests {
         check_eq(sent?, [0xFF; 5])?;
         check_eq(refused, 3)?;
         check_eq(memory, [0x5A; 3])
+    }
+
+    #[test]
+    fn a_read_of_no_cells_reaches_to_the_end() -> Result<(), Fail> {
+        let mut memory = [0; 8192];
+        let mut board = Plain::new(&mut memory);
+        check_eq(number(board.read(8192, &mut [])), 0)?;
+        check_eq(number(board.read(8193, &mut [])), 4)
+    }
+
+    #[test]
+    fn a_write_of_no_cells_passes_a_fence() -> Result<(), Fail> {
+        let mut memory = [0; 8];
+        let mut board = Shield::new(Plain::new(&mut memory));
+        check_eq(number(board.add(3, 1)), 0)?;
+        check_eq(number(board.write(3, &[])), 0)?;
+        check_eq(number(board.write(3, &[0xAA])), 5)?;
+        check_eq(number(board.write(3, &[0xAA; 6])), 4)?;
+        check_eq(number(board.write(4, &[0xAA; 4])), 0)?;
+        check_eq(number(board.widen(1, 1)), 4)?;
+        for _ in 1..8 {
+            check_eq(number(board.add(0, 0)), 0)?;
+        }
+        check_eq(number(board.add(0, 0)), 7)?;
+        check_eq(memory, [0, 0, 0, 0, 0xAA, 0xAA, 0xAA, 0xAA])
     }
 }

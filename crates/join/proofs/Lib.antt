@@ -1,0 +1,2 @@
+pub mod Seams
+pub mod Halves

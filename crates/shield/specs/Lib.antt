@@ -1,0 +1,2 @@
+pub mod Shields
+pub mod Shown
