@@ -1,4 +1,6 @@
 // Boards: anything that means an image, and plain memory, the lowest of them.
+#![tactic(auto)]
+
 ghost use Rattle.std.specs.Prelude.{◌≡◌, ◌+◌, ◌≤◌, length, nat_le};
 ghost use Rattle.image.specs.Images.{Image, most};
 ghost use Rattle.image.specs.Results.{fence_result, read_result, read_into, write_result, written};

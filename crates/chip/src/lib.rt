@@ -1,4 +1,6 @@
 // The chip at its pins: parked without power, or powered over lent memory.
+#![tactic(auto)]
+
 mod chip;
 mod selection;
 

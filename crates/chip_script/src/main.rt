@@ -1,6 +1,8 @@
 // Runs the chip script on standard input, of which it takes the first 4,096 bytes, on an MB85RS64VY with t 03h, f 02h,
 // memory and status zero. It writes the answer bytes; or, where the script has a fault, 7Eh, the number of the refusal and
 // the place of the kind byte in two bytes.
+#![tactic(auto)]
+
 ghost use Rattle.std.specs.Prelude.{◌≡◌, ◌≤◌, length, IfOk};
 ghost use Rattle.chip_script.specs.Faults.{fault_bytes};
 

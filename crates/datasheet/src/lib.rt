@@ -1,5 +1,7 @@
 // The terms of the data sheets of the SPI FRAM chips MB85RS64VY, MB85RS128TY and MB85RS256B, as types, with the
 // definitions that the contracts of every stage cite (specs/).
+#![tactic(auto)]
+
 mod command;
 mod level;
 mod refusal;

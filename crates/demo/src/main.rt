@@ -1,4 +1,6 @@
 // A visit told in text: what is done to a chip at its pins and to boards, and what comes out.
+#![tactic(auto)]
+
 use board::{Board, Plain};
 use chip::{Chip, ParkedChip};
 use datasheet::{Level, Refusal, Sheet};

@@ -1,4 +1,5 @@
 // The terms of boards as types, with the definitions of what a board holds and answers (specs/).
+#![tactic(auto)]
 
 // One place of a board: its byte, and whether it is fenced, that is kept from being written.
 #[derive(Clone, Copy, Drop)]

@@ -1,4 +1,6 @@
 // A shield: a board with further cells fenced.
+#![tactic(auto)]
+
 mod layer;
 mod ranges;
 

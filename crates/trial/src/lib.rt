@@ -1,5 +1,7 @@
 // The trial cases: what a chip must show after what is sent to it. The definitions give what each row says, computed by
 // the checker, and the test runs the same rows through the chip.
+#![tactic(auto)]
+
 ghost use Rattle.std.specs.Prelude.{◌≡◌, ◌≤◌, MatchOption};
 ghost use Rattle.trial.specs.Rows.{Right};
 

@@ -1,4 +1,6 @@
 // A window: a part of a board, as a board.
+#![tactic(auto)]
+
 ghost use Rattle.std.specs.Prelude.{◌≡◌, ◌+◌, ◌^◌, ◌<◌, ◌≤◌, length};
 ghost use Rattle.image.specs.Images.{most};
 ghost use Rattle.image.specs.Results.{fence_result, read_result, read_into, write_result, written};
