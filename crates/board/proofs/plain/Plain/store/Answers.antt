@@ -9,6 +9,6 @@ returns c =
     let bytes = c.args.bytes.now in
     let up : start ≤ start + length bytes = omega arith in
     record {
-      memory = ap₂ (λ (part rest : List ℕ). take start old ++ (part ++ rest)) c.copy-from-slice.ensures.after (Post-is start (start + length bytes) old up);
+      memory = ap₂ (λ (part rest : List ℕ). take start old ++ (part ++ rest)) c.copy_from_slice.ensures.after (Post-is start (start + length bytes) old up);
       lent = refl;
     }

@@ -7,6 +7,6 @@ returns c =
     let found = c.equal.ensures in
     record {
       exact = found.exact;
-      untold = told c.args.self.now c.args.other.now _ found.bytes found.bytes-too found.exact;
+      untold = told c.args.self.now c.args.other.now _ found.bytes found.bytes_too found.exact;
       law = (told-apart-whole, told-apart);
     }
