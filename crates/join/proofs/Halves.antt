@@ -72,7 +72,7 @@ pub record Parts (a' b' a b : Image) (s n : ℕ) (cut : Cut) : Type 0 where
 -- what `cut` tells
 abbrev pub Told : Image → Image → Image → Image → Lent → Lent → Lent → Lent → ℕ → ℕ → Cut → Type 0
 Told a' b' a b x' y' x y s n c =
-    record { cut : Cuts a b s n c; few : c.total ≤ most; first : a' ≡ a; second : b' ≡ b; lent-first : x' ≡ x; lent-second : y' ≡ y }
+    record { cut : Cuts a b s n c; few : c.total ≤ most; first : a' ≡ a; second : b' ≡ b; lent_first : x' ≡ x; lent_second : y' ≡ y }
 
 pub parts : {a' b' a b : Image} {x' y' x y : Lent} {s n : ℕ} {c : Cut} {r : Bool} → Told a' b' a b x' y' x y s n c → r ≡ leb (s + n) c.total → r ≡ true → Parts a' b' a b s n c
 parts k e t = record { first = k.first; second = k.second; cuts = k.cut; lies = inside-true _ _ _ k.cut.total e t }
@@ -91,7 +91,7 @@ pub kept : {X Y Z : Type 0} {a'' b'' a' b' a b : Image} {x'' y'' x' y' x y : Len
 kept k e f answer =
     let p = e.same ∙ k.first in
     let q = f.same ∙ k.second in
-    record { answer = answer; same = at_both joined p q; lent = at_both both (e.lent ∙ k.lent-first) (f.lent ∙ k.lent-second); first = p; second = q }
+    record { answer = answer; same = at_both joined p q; lent = at_both both (e.lent ∙ k.lent_first) (f.lent ∙ k.lent_second); first = p; second = q }
 
 -- ## The fence question
 

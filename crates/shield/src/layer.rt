@@ -65,21 +65,21 @@ impl<B: Board> Board for Shield<B> {
     ghost lent = { shield_lent B.Board.lent };
 
     fn size(&mut self) -> usize
-        ensures answer { result ≡ length (shield_image image self.old) }
+        ensures answer { result ≡ length (shield_image B.image self.old) }
         ensures few { result ≤ most }
-        ensures same { shield_image image self.new ≡ shield_image image self.old }
-        ensures lent { shield_lent lent self.new ≡ shield_lent lent self.old }
-        ensures below { image self.new.below ≡ image self.old.below }
+        ensures same { shield_image B.image self.new ≡ shield_image B.image self.old }
+        ensures lent { shield_lent B.lent self.new ≡ shield_lent B.lent self.old }
+        ensures below { B.image self.new.below ≡ B.image self.old.below }
         ensures ranges { self.new.ranges ≡ self.old.ranges }
     {
         self.below.size()
     }
 
     fn first_fence(&mut self, start: usize, count: usize) -> Result<Option<usize>, Refusal>
-        ensures answer { result ≡ fence_result (shield_image image self.old) start count }
-        ensures same { shield_image image self.new ≡ shield_image image self.old }
-        ensures lent { shield_lent lent self.new ≡ shield_lent lent self.old }
-        ensures below { image self.new.below ≡ image self.old.below }
+        ensures answer { result ≡ fence_result (shield_image B.image self.old) start count }
+        ensures same { shield_image B.image self.new ≡ shield_image B.image self.old }
+        ensures lent { shield_lent B.lent self.new ≡ shield_lent B.lent self.old }
+        ensures below { B.image self.new.below ≡ B.image self.old.below }
         ensures ranges { self.new.ranges ≡ self.old.ranges }
     {
         let below = self.below.first_fence(start, count)?;
@@ -87,21 +87,21 @@ impl<B: Board> Board for Shield<B> {
     }
 
     fn read(&mut self, start: usize, buffer: &mut [u8]) -> Result<(), Refusal>
-        ensures answer { result ≡ read_result (shield_image image self.old) start (length buffer.old) }
-        ensures filled { buffer.new ≡ read_into (shield_image image self.old) start buffer.old }
-        ensures same { shield_image image self.new ≡ shield_image image self.old }
-        ensures lent { shield_lent lent self.new ≡ shield_lent lent self.old }
-        ensures below { image self.new.below ≡ image self.old.below }
+        ensures answer { result ≡ read_result (shield_image B.image self.old) start (length buffer.old) }
+        ensures filled { buffer.new ≡ read_into (shield_image B.image self.old) start buffer.old }
+        ensures same { shield_image B.image self.new ≡ shield_image B.image self.old }
+        ensures lent { shield_lent B.lent self.new ≡ shield_lent B.lent self.old }
+        ensures below { B.image self.new.below ≡ B.image self.old.below }
         ensures ranges { self.new.ranges ≡ self.old.ranges }
     {
         self.below.read(start, buffer)
     }
 
     fn write(&mut self, start: usize, bytes: &[u8]) -> Result<(), Refusal>
-        ensures answer { result ≡ write_result (shield_image image self.old) start bytes.now }
-        ensures after { shield_image image self.new ≡ written (shield_image image self.old) start bytes.now }
-        ensures lent { shield_lent lent self.new ≡ shield_lent lent self.old }
-        ensures below { image self.new.below ≡ written_below (ranges_of self.old.ranges) (image self.old.below) start bytes.now }
+        ensures answer { result ≡ write_result (shield_image B.image self.old) start bytes.now }
+        ensures after { shield_image B.image self.new ≡ written (shield_image B.image self.old) start bytes.now }
+        ensures lent { shield_lent B.lent self.new ≡ shield_lent B.lent self.old }
+        ensures below { B.image self.new.below ≡ written_below (ranges_of self.old.ranges) (B.image self.old.below) start bytes.now }
         ensures ranges { self.new.ranges ≡ self.old.ranges }
     {
         let size = self.below.size();

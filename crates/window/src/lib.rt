@@ -40,11 +40,11 @@ impl<B: Board> Window<B> {
     }
 
     fn span(&mut self) -> Span
-        ensures base { result.base ≡ base_of self.old.offset (image self.old.below) }
-        ensures size { result.size ≡ length (windowed self.old.offset self.old.count (image self.old.below)) }
+        ensures base { result.base ≡ base_of self.old.offset (B.image self.old.below) }
+        ensures size { result.size ≡ length (windowed self.old.offset self.old.count (B.image self.old.below)) }
         ensures few { result.base + result.size ≤ most }
-        ensures below { image self.new.below ≡ image self.old.below }
-        ensures lent { lent self.new.below ≡ lent self.old.below }
+        ensures below { B.image self.new.below ≡ B.image self.old.below }
+        ensures lent { B.lent self.new.below ≡ B.lent self.old.below }
         ensures offset { self.new.offset ≡ self.old.offset }
         ensures count { self.new.count ≡ self.old.count }
     {
@@ -63,20 +63,20 @@ impl<B: Board> Board for Window<B> {
     ghost lent = { window_lent B.Board.lent };
 
     fn size(&mut self) -> usize
-        ensures answer { result ≡ length (window_image image self.old) }
+        ensures answer { result ≡ length (window_image B.image self.old) }
         ensures few { result ≤ most }
-        ensures same { window_image image self.new ≡ window_image image self.old }
-        ensures lent { window_lent lent self.new ≡ window_lent lent self.old }
-        ensures below { image self.new.below ≡ image self.old.below }
+        ensures same { window_image B.image self.new ≡ window_image B.image self.old }
+        ensures lent { window_lent B.lent self.new ≡ window_lent B.lent self.old }
+        ensures below { B.image self.new.below ≡ B.image self.old.below }
     {
         self.span().size
     }
 
     fn first_fence(&mut self, start: usize, count: usize) -> Result<Option<usize>, Refusal>
-        ensures answer { result ≡ fence_result (window_image image self.old) start count }
-        ensures same { window_image image self.new ≡ window_image image self.old }
-        ensures lent { window_lent lent self.new ≡ window_lent lent self.old }
-        ensures below { image self.new.below ≡ image self.old.below }
+        ensures answer { result ≡ fence_result (window_image B.image self.old) start count }
+        ensures same { window_image B.image self.new ≡ window_image B.image self.old }
+        ensures lent { window_lent B.lent self.new ≡ window_lent B.lent self.old }
+        ensures below { B.image self.new.below ≡ B.image self.old.below }
     {
         let span = self.span();
         if !within(start, count, span.size) {
@@ -90,11 +90,11 @@ impl<B: Board> Board for Window<B> {
     }
 
     fn read(&mut self, start: usize, buffer: &mut [u8]) -> Result<(), Refusal>
-        ensures answer { result ≡ read_result (window_image image self.old) start (length buffer.old) }
-        ensures filled { buffer.new ≡ read_into (window_image image self.old) start buffer.old }
-        ensures same { window_image image self.new ≡ window_image image self.old }
-        ensures lent { window_lent lent self.new ≡ window_lent lent self.old }
-        ensures below { image self.new.below ≡ image self.old.below }
+        ensures answer { result ≡ read_result (window_image B.image self.old) start (length buffer.old) }
+        ensures filled { buffer.new ≡ read_into (window_image B.image self.old) start buffer.old }
+        ensures same { window_image B.image self.new ≡ window_image B.image self.old }
+        ensures lent { window_lent B.lent self.new ≡ window_lent B.lent self.old }
+        ensures below { B.image self.new.below ≡ B.image self.old.below }
     {
         let span = self.span();
         if !within(start, buffer.len(), span.size) {
@@ -104,10 +104,10 @@ impl<B: Board> Board for Window<B> {
     }
 
     fn write(&mut self, start: usize, bytes: &[u8]) -> Result<(), Refusal>
-        ensures answer { result ≡ write_result (window_image image self.old) start bytes.now }
-        ensures after { window_image image self.new ≡ written (window_image image self.old) start bytes.now }
-        ensures lent { window_lent lent self.new ≡ window_lent lent self.old }
-        ensures below { image self.new.below ≡ written_below self.old.offset self.old.count (image self.old.below) start bytes.now }
+        ensures answer { result ≡ write_result (window_image B.image self.old) start bytes.now }
+        ensures after { window_image B.image self.new ≡ written (window_image B.image self.old) start bytes.now }
+        ensures lent { window_lent B.lent self.new ≡ window_lent B.lent self.old }
+        ensures below { B.image self.new.below ≡ written_below self.old.offset self.old.count (B.image self.old.below) start bytes.now }
     {
         let span = self.span();
         if !within(start, bytes.len(), span.size) {

@@ -19,6 +19,6 @@ returns g c =
       exact = (λ e. sym a ∙ d.0 e ∙ b, λ e. d.1 (a ∙ e ∙ sym b));
       left = c.read.ensures.same;
       right = c.read-2.ensures.same;
-      lent-left = c.read.ensures.lent;
-      lent-right = c.read-2.ensures.lent;
+      lent_left = c.read.ensures.lent;
+      lent_right = c.read-2.ensures.lent;
     }

@@ -13,23 +13,23 @@ returns-then-ne g c =
     let n = c.args.size - s in
     let long : length i ≡ c.args.size = search rules in
     let wide : length j ≡ c.args.size = search rules in
-    let e = fence-is i s n _ _ c.first-fence.ensures.answer c.unwrap-fence.ensures (omega arith) in
-    let f = fence-is j s n _ _ c.first-fence-in-loop-start.ensures.answer c.unwrap.ensures (omega arith) in
+    let e = fence-is i s n _ _ c.first_fence.ensures.answer c.unwrap-fence.ensures (omega arith) in
+    let f = fence-is j s n _ _ c.first_fence-in-loop-start.ensures.answer c.unwrap.ensures (omega arith) in
     let ui = c.loop-start.invariant.1 in
     let vj = c.loop-start.invariant.2 in
     record {
       exact = (λ z. cc, λ z. absurd (differ (sym f ∙ sym (hop-differs i j s c.args.size long wide c.loop-start-test.true (ap fences_of ui ∙ z ∙ ap fences_of (sym vj))) ∙ e)));
-      left = c.first-fence.ensures.same ∙ ui;
-      right = c.first-fence-in-loop-start.ensures.same ∙ vj;
-      lent-left = c.first-fence.ensures.lent ∙ c.loop-start.invariant.4;
-      lent-right = c.first-fence-in-loop-start.ensures.lent ∙ c.loop-start.invariant.5;
+      left = c.first_fence.ensures.same ∙ ui;
+      right = c.first_fence-in-loop-start.ensures.same ∙ vj;
+      lent_left = c.first_fence.ensures.lent ∙ c.loop-start.invariant.4;
+      lent_right = c.first_fence-in-loop-start.ensures.lent ∙ c.loop-start.invariant.5;
     }
 
-pub overflow-add-start : goal.overflow-add-start
-overflow-add-start g c =
+pub overflow_add-start : goal.overflow_add-start
+overflow_add-start g c =
     let i = g.P.Board.image c.loop-start.p in
     let long : length i ≡ c.args.size = search rules in
-    let e = fence-is i c.loop-start.start (c.args.size - c.loop-start.start) _ _ c.first-fence.ensures.answer c.unwrap-fence.ensures (omega arith) in
+    let e = fence-is i c.loop-start.start (c.args.size - c.loop-start.start) _ _ c.first_fence.ensures.answer c.unwrap-fence.ensures (omega arith) in
     let w = hop-within i i c.loop-start.start c.args.size long long c.loop-start-test.true c.in-Some.place (e ∙ c.in-Some.is) in
     omega (arith, w.1)
 
@@ -37,7 +37,7 @@ pub loop-start-smaller : goal.loop-start-smaller
 loop-start-smaller g c =
     let i = g.P.Board.image c.loop-start.p in
     let long : length i ≡ c.args.size = search rules in
-    let e = fence-is i c.loop-start.start (c.args.size - c.loop-start.start) _ _ c.first-fence.ensures.answer c.unwrap-fence.ensures (omega arith) in
+    let e = fence-is i c.loop-start.start (c.args.size - c.loop-start.start) _ _ c.first_fence.ensures.answer c.unwrap-fence.ensures (omega arith) in
     let w = hop-within i i c.loop-start.start c.args.size long long c.loop-start-test.true c.in-Some.place (e ∙ c.in-Some.is) in
     omega (arith, w.0, w.1)
 
@@ -53,16 +53,16 @@ loop-start-preserved g c =
     let long : length (g.P.Board.image c.loop-start.p) ≡ c.args.size = search rules in
     let wide : length (g.Q.Board.image c.loop-start.q) ≡ c.args.size = search rules in
     let e : fence_in i s n ≡ Some c.in-Some.place =
-    ap (λ x. fence_in x s n) (sym ui) ∙ fence-is _ s n _ _ c.first-fence.ensures.answer c.unwrap-fence.ensures (omega arith) ∙ c.in-Some.is in
+    ap (λ x. fence_in x s n) (sym ui) ∙ fence-is _ s n _ _ c.first_fence.ensures.answer c.unwrap-fence.ensures (omega arith) ∙ c.in-Some.is in
     let f : fence_in j s n ≡ Some c.in-Some.place =
-    ap (λ x. fence_in x s n) (sym vj) ∙ fence-is _ s n _ _ c.first-fence-in-loop-start.ensures.answer c.unwrap.ensures (omega arith) ∙ same ∙ c.in-Some.is in
+    ap (λ x. fence_in x s n) (sym vj) ∙ fence-is _ s n _ _ c.first_fence-in-loop-start.ensures.answer c.unwrap.ensures (omega arith) ∙ same ∙ c.in-Some.is in
     let w = hop-within i j s c.args.size c.requires.first c.requires.second c.loop-start-test.true c.in-Some.place e in (
       omega (arith, w.1),
-      c.first-fence.ensures.same ∙ ui,
-      c.first-fence-in-loop-start.ensures.same ∙ vj,
+      c.first_fence.ensures.same ∙ ui,
+      c.first_fence-in-loop-start.ensures.same ∙ vj,
       hop i j s c.args.size c.requires.first c.requires.second c.loop-start-test.true c.in-Some.place c.loop-start.invariant.3 e f,
-      c.first-fence.ensures.lent ∙ c.loop-start.invariant.4,
-      c.first-fence-in-loop-start.ensures.lent ∙ c.loop-start.invariant.5,
+      c.first_fence.ensures.lent ∙ c.loop-start.invariant.4,
+      c.first_fence-in-loop-start.ensures.lent ∙ c.loop-start.invariant.5,
     )
 
 pub returns-in-None : goal.returns-in-None
@@ -77,15 +77,15 @@ returns-in-None g c =
     let long : length (g.P.Board.image c.loop-start.p) ≡ c.args.size = search rules in
     let wide : length (g.Q.Board.image c.loop-start.q) ≡ c.args.size = search rules in
     let e : fence_in i s n ≡ None =
-    ap (λ x. fence_in x s n) (sym ui) ∙ fence-is _ s n _ _ c.first-fence.ensures.answer c.unwrap-fence.ensures (omega arith) ∙ c.in-None.is in
+    ap (λ x. fence_in x s n) (sym ui) ∙ fence-is _ s n _ _ c.first_fence.ensures.answer c.unwrap-fence.ensures (omega arith) ∙ c.in-None.is in
     let f : fence_in j s n ≡ None =
-    ap (λ x. fence_in x s n) (sym vj) ∙ fence-is _ s n _ _ c.first-fence-in-loop-start.ensures.answer c.unwrap.ensures (omega arith) ∙ same ∙ c.in-None.is in
+    ap (λ x. fence_in x s n) (sym vj) ∙ fence-is _ s n _ _ c.first_fence-in-loop-start.ensures.answer c.unwrap.ensures (omega arith) ∙ same ∙ c.in-None.is in
     record {
       exact = (λ _. hop-none i j s c.args.size c.requires.first c.requires.second c.loop-start-test.true c.loop-start.invariant.3 e f, λ _. refl);
-      left = c.first-fence.ensures.same ∙ ui;
-      right = c.first-fence-in-loop-start.ensures.same ∙ vj;
-      lent-left = c.first-fence.ensures.lent ∙ c.loop-start.invariant.4;
-      lent-right = c.first-fence-in-loop-start.ensures.lent ∙ c.loop-start.invariant.5;
+      left = c.first_fence.ensures.same ∙ ui;
+      right = c.first_fence-in-loop-start.ensures.same ∙ vj;
+      lent_left = c.first_fence.ensures.lent ∙ c.loop-start.invariant.4;
+      lent_right = c.first_fence-in-loop-start.ensures.lent ∙ c.loop-start.invariant.5;
     }
 
 pub returns : goal.returns
@@ -96,6 +96,6 @@ returns g c =
       exact = (λ _. parts_all (λ x. x.fenced) i j c.loop-start.start (omega arith) (omega arith) c.loop-start.invariant.3, λ _. refl);
       left = c.loop-start.invariant.1;
       right = c.loop-start.invariant.2;
-      lent-left = c.loop-start.invariant.4;
-      lent-right = c.loop-start.invariant.5;
+      lent_left = c.loop-start.invariant.4;
+      lent_right = c.loop-start.invariant.5;
     }

@@ -12,6 +12,6 @@ returns g c =
       few = omega arith;
       first = c.size-seam.ensures.same;
       second = c.size-rest.ensures.same;
-      lent-first = c.size-seam.ensures.lent;
-      lent-second = c.size-rest.ensures.lent;
+      lent_first = c.size-seam.ensures.lent;
+      lent_second = c.size-rest.ensures.lent;
     }

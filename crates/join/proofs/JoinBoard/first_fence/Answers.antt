@@ -3,36 +3,36 @@ use Rattle.std.proofs.Common.{arith}
 use Rattle.join.proofs.Halves.{parts, kept, unasked, first-told, second-told, fence-ahead, fence-behind, place-few}
 use Rattle.join.proofs.JoinBoard.first_fence.Goals as goal
 
-pub returns-in-err-ahead : goal.returns-in-err-ahead
-returns-in-err-ahead g c =
+pub returns-in_err-ahead : goal.returns-in_err-ahead
+returns-in_err-ahead g c =
     let h = parts c.cut-cut.ensures c.within.ensures c.if-not-within.false in
-    absurd (first-told h c.in-err-ahead.ensures.answer)
+    absurd (first-told h c.in_err-ahead.ensures.answer)
 
-pub returns-then-is-some : goal.returns-then-is-some
-returns-then-is-some g c =
+pub returns-then-is_some : goal.returns-then-is_some
+returns-then-is_some g c =
     let k = c.cut-cut.ensures in
     let h = parts k c.within.ensures c.if-not-within.false in
-    kept k c.first-fence.ensures unasked (fence-ahead h c.in-ok-ahead.ensures.answer c.if-is-some.ensures)
+    kept k c.first_fence.ensures unasked (fence-ahead h c.in_ok-ahead.ensures.answer c.if-is_some.ensures)
 
-pub returns-in-err-place : goal.returns-in-err-place
-returns-in-err-place g c =
+pub returns-in_err-place : goal.returns-in_err-place
+returns-in_err-place g c =
     let h = parts c.cut-cut.ensures c.within.ensures c.if-not-within.false in
-    absurd (second-told h c.in-err-place.ensures.answer)
+    absurd (second-told h c.in_err-place.ensures.answer)
 
-pub overflow-add-result : goal.overflow-add-result
-overflow-add-result g c =
+pub overflow_add-result : goal.overflow_add-result
+overflow_add-result g c =
     let h = parts c.cut-cut.ensures c.within.ensures c.if-not-within.false in
-    let few = place-few h c.in-Some.is c.in-ok-place.ensures.answer in
+    let few = place-few h c.in-Some.is c.in_ok-place.ensures.answer in
     omega arith
 
 pub returns-in-Some : goal.returns-in-Some
 returns-in-Some g c =
     let k = c.cut-cut.ensures in
     let h = parts k c.within.ensures c.if-not-within.false in
-    kept k c.first-fence.ensures c.first-fence-2.ensures (fence-behind h c.in-ok-ahead.ensures.answer c.if-is-some.ensures c.in-ok-place.ensures.answer c.in-Some.is)
+    kept k c.first_fence.ensures c.first_fence-2.ensures (fence-behind h c.in_ok-ahead.ensures.answer c.if-is_some.ensures c.in_ok-place.ensures.answer c.in-Some.is)
 
 pub returns-in-None : goal.returns-in-None
 returns-in-None g c =
     let k = c.cut-cut.ensures in
     let h = parts k c.within.ensures c.if-not-within.false in
-    kept k c.first-fence.ensures c.first-fence-2.ensures (fence-behind h c.in-ok-ahead.ensures.answer c.if-is-some.ensures c.in-ok-place.ensures.answer c.in-None.is)
+    kept k c.first_fence.ensures c.first_fence-2.ensures (fence-behind h c.in_ok-ahead.ensures.answer c.if-is_some.ensures c.in_ok-place.ensures.answer c.in-None.is)

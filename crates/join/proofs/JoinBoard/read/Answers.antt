@@ -6,10 +6,10 @@ use Rattle.join.proofs.Seams.{at_both, back-lent, back-put}
 use Rattle.join.proofs.Halves.{parts, length-read, first_reads, second_reads, read_join}
 use Rattle.join.proofs.JoinBoard.read.Goals as goal
 
-pub returns-in-err-read : goal.returns-in-err-read
-returns-in-err-read g c =
+pub returns-in_err-read : goal.returns-in_err-read
+returns-in_err-read g c =
     let h = parts c.cut-cut.ensures c.within.ensures c.if-not-within.false in
-    absurd (first_reads c.args.buffer.now h c.in-err-read.ensures.answer)
+    absurd (first_reads c.args.buffer.now h c.in_err-read.ensures.answer)
 
 pub returns : goal.returns
 returns g c =
@@ -28,7 +28,7 @@ returns g c =
       answer = second_reads buffer h lent c.read-2.ensures.answer;
       filled = back-put head tail rest cut.front long ∙ read_join buffer h lent c.read.ensures.filled c.read-2.ensures.filled;
       same = at_both joined first second;
-      lent = at_both both (c.read.ensures.lent ∙ k.lent-first) (c.read-2.ensures.lent ∙ k.lent-second);
+      lent = at_both both (c.read.ensures.lent ∙ k.lent_first) (c.read-2.ensures.lent ∙ k.lent_second);
       first = first;
       second = second;
     }

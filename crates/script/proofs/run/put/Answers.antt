@@ -10,5 +10,5 @@ returns c =
     let up : at ≤ at + length bytes = omega arith in
     record {
       next = refl;
-      wrote = ap₂ (λ (part rest : List ℕ). take at old ++ (part ++ rest)) c.copy-from-slice.ensures.after (Post-is at (at + length bytes) old up);
+      wrote = ap₂ (λ (part rest : List ℕ). take at old ++ (part ++ rest)) c.copy_from_slice.ensures.after (Post-is at (at + length bytes) old up);
     }

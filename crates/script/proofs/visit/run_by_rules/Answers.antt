@@ -10,7 +10,7 @@ pub returns : goal.returns
 returns c =
     let script = c.args.script.now in
     let buffer = c.args.buffer.now in
-    let did = c.chip-run.ensures in
+    let did = c.chip_run.ensures in
     let same = λ (d : Chip (List Bool)) (e : _ ≡ kept_chip d).
     ap (λ (x : Chip Registers). outcome bounded x script buffer) e ∙ same_outcome d script buffer in
     record {

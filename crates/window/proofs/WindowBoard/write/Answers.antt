@@ -6,8 +6,8 @@ use Rattle.image.proofs.Cells.{inside-true, within-true}
 use Rattle.window.proofs.Views.{same_view, win-answer, win-written, win-below}
 use Rattle.window.proofs.WindowBoard.write.Goals as goal
 
-pub overflow-add-span : goal.overflow-add-span
-overflow-add-span g c =
+pub overflow_add-span : goal.overflow_add-span
+overflow_add-span g c =
     let h = within-true c.span-span.result.size c.args.start (length c.args.bytes.now) c.within.ensures c.if-not-within.false in
     omega arith
 

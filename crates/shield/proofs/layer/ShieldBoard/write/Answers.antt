@@ -27,15 +27,15 @@ returns-then-not-within g c =
       ranges = refl;
     }
 
-pub returns-then-is-some : goal.returns-then-is-some
-returns-then-is-some g c =
+pub returns-then-is_some : goal.returns-then-is_some
+returns-then-is_some g c =
     let rs = ranges_of c.args.self.now.ranges in
     let i = g.B.Board.image c.args.self.now.below in
     let at = c.args.start in
     let bs = c.args.bytes.now in
     let did = c.size-size.ensures in
     let o = fenced rs i at bs (tested i at (length bs) did.answer c.within.ensures c.if-not-within.false)
-    (ap is_some (sym c.first-in.ensures) ∙ sym c.is-some.ensures ∙ c.if-is-some.true) in
+    (ap is_some (sym c.first_in.ensures) ∙ sym c.is_some.ensures ∙ c.if-is_some.true) in
     record {
       answer = sym o;
       after = ap (shielded rs) did.same ∙ left-shown rs i at bs o;
@@ -53,7 +53,7 @@ returns g c =
     let did = c.size-size.ensures in
     let wrote = c.write.ensures in
     let o = passed rs i at bs (tested i at (length bs) did.answer c.within.ensures c.if-not-within.false)
-    (ap is_some (sym c.first-in.ensures) ∙ sym c.is-some.ensures ∙ c.if-is-some.false) in
+    (ap is_some (sym c.first_in.ensures) ∙ sym c.is_some.ensures ∙ c.if-is_some.false) in
     let below = wrote.after ∙ ap (λ (j : Image). written j at bs) did.same in
     record {
       answer = wrote.answer ∙ ap (λ (j : Image). write_result j at bs) did.same ∙ sym o;

@@ -8,7 +8,7 @@ use Rattle.shield.proofs.ranges.Ranges.first_in.Goals as goal
 
 pub loop-range-preserved : goal.loop-range-preserved
 loop-range-preserved c =
-    let items = c.in-use-range-items.result.now in
+    let items = c.in_use-range-items.result.now in
     let i = c.loop-range.range-index in
     let start = c.args.start in
     let free = c.min-free.result in
@@ -26,20 +26,20 @@ loop-range-preserved c =
 
 pub returns-then-free-count : goal.returns-then-free-count
 returns-then-free-count c =
-    let items = c.in-use-range-items.result.now in
+    let items = c.in_use-range-items.result.now in
     let start = c.args.start in
     let free = c.loop-range.free in
     let inv = c.loop-range.invariant in
-    let all = take_all c.loop-range.range-index items c.loop-range-test.false ∙ c.in-use-range-items.ensures in
+    let all = take_all c.loop-range.range-index items c.loop-range-test.false ∙ c.in_use-range-items.ensures in
     sym (first_found _ c.args.count start free c.if-free-count.true
     (subst (λ (xs : List Range). Clear xs start (start + free)) all inv.1)
     (subst (λ (xs : List Range). covered xs (start + free) ≡ true) all (inv.2 c.if-free-count.true)))
 
 pub returns-else-free-count : goal.returns-else-free-count
 returns-else-free-count c =
-    let items = c.in-use-range-items.result.now in
+    let items = c.in_use-range-items.result.now in
     let start = c.args.start in
     let inv = c.loop-range.invariant in
-    let all = take_all c.loop-range.range-index items c.loop-range-test.false ∙ c.in-use-range-items.ensures in
+    let all = take_all c.loop-range.range-index items c.loop-range-test.false ∙ c.in_use-range-items.ensures in
     sym (none_found _ c.args.count start
     (subst (λ (xs : List Range). Clear xs start (start + c.args.count)) all (λ k from to. inv.1 k from (omega arith))))
