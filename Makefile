@@ -2,8 +2,7 @@
 .PHONY: run test
 
 run:
-	@log=$$(mktemp); rt check demo >"$$log" 2>&1 || { cat "$$log"; rm -f "$$log"; exit 1; }; rm -f "$$log"
-	@target/bin/demo
+	@log=$$(mktemp); (cd crates/demo && rt run 2>"$$log") || { cat "$$log"; rm -f "$$log"; exit 1; }; rm -f "$$log"
 
 test:
 	@.ci/run

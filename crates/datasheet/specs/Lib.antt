@@ -10,7 +10,6 @@ pub mod Rises
 pub mod Falls
 pub mod Ends
 pub mod Samples
-pub mod Wells
 pub mod Chips
 pub mod Calls
 pub mod Kept
