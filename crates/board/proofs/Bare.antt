@@ -1,7 +1,7 @@
 -- Plain memory: its image has no fence, and bytes put into it are bytes put into the image.
-use Rattle.std.proofs.Common.{◌≡◌, ℕ, zero, suc, ◌+◌, ◌-◌, ◌≤◌, min, Bool, true, false, cond, List, [], ◌∷◌, ◌++◌, map, length, take, drop, None, Ok, Err, sym, refl, ap, ◌∙◌, suc-add, arith}
-use Rattle.std.proofs.lemmas.List.{drop-map, take-map, length-map, length-take, length-drop, length-append}
-use Rattle.image.specs.Images.{Image, most, inside, part, bytes_of, first_fenced, fence_in, overlaid, overwritten, free}
+use Rattle.std.proofs.Common.{◌≡◌, ℕ, zero, suc, ◌+◌, ◌≤◌, min, true, List, [], ◌∷◌, ◌++◌, map, length, take, drop, None, Ok, sym, refl, ap, ◌∙◌, suc-add, arith}
+use Rattle.std.proofs.lemmas.List.{drop-map, take-map, length-map, length-take}
+use Rattle.image.specs.Images.{most, inside, part, bytes_of, first_fenced, fence_in, overlaid, overwritten, free}
 use Rattle.image.specs.Results.{fence_result, read_result, read_into, write_result, written}
 use Rattle.image.specs.Layers.{plain}
 use Rattle.image.proofs.Cells.{part-take}

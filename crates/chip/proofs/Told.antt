@@ -1,5 +1,5 @@
 -- The law of chips at the chips of the code.
-use Rattle.std.proofs.Common.{◌≡◌, Bool, true, false, Decides, sym, refl, ap, ◌∙◌, arith, true-eqb}
+use Rattle.std.proofs.Common.{◌≡◌, Bool, Decides, sym, ap, ◌∙◌, true-eqb}
 use Rattle.std.proofs.lemmas.Bool.Decides.{Decides-like}
 use Rattle.datasheet.specs.Kept.{bounded}
 use Rattle.laws.specs.Laws.{Fitted, Alike}

@@ -1,12 +1,11 @@
 -- Images by their bytes and their fences, front by front.
-use Rattle.std.proofs.Common.{◌≡◌, ℕ, zero, suc, ◌+◌, ◌-◌, ◌<◌, ◌≤◌, Bool, true, false, cond, List, [], ◌∷◌, ◌++◌, map, length, get_or, take, drop, Some, None, Ok, Err, Option, Result, sym, refl, ap, ◌∙◌, ⊎_elim, arith, take-add}
+use Rattle.std.proofs.Common.{◌≡◌, ℕ, suc, ◌+◌, ◌-◌, ◌<◌, ◌≤◌, true, false, List, [], ◌∷◌, map, length, take, drop, Some, None, Ok, Option, Result, sym, refl, ap, ◌∙◌, ⊎_elim, arith, take-add}
 use Rattle.std.proofs.lemmas.Bool.{cases_Bool, le-leb}
 use Rattle.std.proofs.lemmas.List.{take-map, drop-map, take_all, take-take, length-drop, length-take, length-map}
 use Rattle.image.specs.declared.Cell.{Cell}
-use Rattle.image.specs.Images.{Image, inside, part, bytes_of, first_fenced, fence_in}
+use Rattle.image.specs.Images.{Image, part, bytes_of, first_fenced, fence_in}
 use Rattle.image.specs.Results.{fence_result, read_into}
 use Rattle.datasheet.specs.declared.refusal.Refusal.{Refusal}
-use Rattle.datasheet.specs.declared.refusal.Refusal.TheVariants.{OutOfRange}
 use Rattle.image.proofs.Told.{same-cell}
 use Rattle.equality.specs.Sides.{fences_of}
 

@@ -1,11 +1,11 @@
 -- Facts of images that the proofs of several boards share.
-use Rattle.std.proofs.Common.{◌≡◌, ℕ, zero, suc, ◌+◌, ◌-◌, ◌<◌, ◌≤◌, min, Bool, true, false, cond, leb, List, [], ◌∷◌, ◌++◌, map, length, take, drop, Some, None, Ok, Err, Option, Result, sym, refl, ap, ◌∙◌, inl, inr, add_assoc, suc-add, zero-add, arith, le-leb, leb-true}
+use Rattle.std.proofs.Common.{◌≡◌, ℕ, zero, suc, ◌+◌, ◌≤◌, min, Bool, true, false, cond, leb, List, [], ◌∷◌, length, take, drop, Some, Ok, Err, Result, sym, refl, ap, ◌∙◌, inl, inr, add_assoc, suc-add, zero-add, arith, leb-true}
 use Rattle.std.proofs.lemmas.List.{length-take, length-drop, length-append, take-take, take_all, drop_all}
 use Rattle.std.proofs.lemmas.Bool.Decides.{leb_tells}
 use Rattle.std.specs.Option.{option_map}
 use Rattle.datasheet.specs.declared.refusal.Refusal.{Refusal}
 use Rattle.image.specs.declared.Cell.{Cell}
-use Rattle.image.specs.Images.{Image, inside, part, first_fenced, fence_in, overlaid, overwritten}
+use Rattle.image.specs.Images.{Image, inside, first_fenced, overlaid, overwritten}
 use Rattle.image.specs.Results.{unless_fenced, if_accepted, write_result, written}
 
 -- ## Lists

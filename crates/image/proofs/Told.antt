@@ -1,10 +1,10 @@
 -- Two images are equal exactly when no list of calls tells them apart: size gives the length, and two calls at a place its
 -- cell.
-use Rattle.std.proofs.Common.{◌≡◌, ℕ, ◌+◌, ◌<◌, ◌≤◌, Bool, true, false, cond, leb, List, [], ◌∷◌, length, get_or, take, drop, Some, None, sym, refl, ap, ◌∙◌, arith, le-leb}
+use Rattle.std.proofs.Common.{◌≡◌, ℕ, ◌+◌, ◌<◌, Bool, true, false, cond, [], ◌∷◌, length, get_or, Some, None, refl, ap, arith, le-leb}
 use Rattle.std.proofs.lemmas.List.{ext_get_or, drop_more}
 use Rattle.image.specs.declared.Cell.{Cell}
 use Rattle.image.specs.Images.{Image, inside, part, free}
-use Rattle.image.specs.Calls.{Call, size, fence, read, Answer, cells, place, bytes, answer, answers}
+use Rattle.image.specs.Calls.{size, fence, read, Answer, place, bytes, answer, answers}
 use Rattle.image.specs.Laws.{ToldApart}
 
 abbrev none : Cell

@@ -1,5 +1,5 @@
 -- The layers as functions on images.
-use Rattle.std.specs.Prelude.{ℕ, ◌+◌, min, Bool, true, false, ◌&&◌, ◌||◌, List, [], ◌∷◌, ◌++◌, map, length, take, drop, nat_le, nat_lt}
+use Rattle.std.specs.Prelude.{ℕ, ◌+◌, min, Bool, false, ◌&&◌, ◌||◌, List, [], ◌∷◌, ◌++◌, map, length, take, drop, nat_le, nat_lt}
 use Rattle.image.specs.declared.Cell.{Cell}
 use Rattle.image.specs.declared.Range.{Range}
 use Rattle.image.specs.Images.{Image, most, free}

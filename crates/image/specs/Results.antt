@@ -1,6 +1,6 @@
 -- What each call of a board answers, and what it leaves. A range that does not lie in the image is refused by 4, and a write
 -- to a range with a fenced cell by 5; 4 comes before 5, and a refusal leaves everything.
-use Rattle.std.specs.Prelude.{ℕ, Bool, cond, List, length, Some, None, Ok, Err, Option, Result}
+use Rattle.std.specs.Prelude.{ℕ, cond, List, length, Some, None, Ok, Err, Option, Result}
 use Rattle.datasheet.specs.declared.refusal.Refusal.{Refusal}
 use Rattle.datasheet.specs.declared.refusal.Refusal.TheVariants.{OutOfRange, Fenced}
 use Rattle.image.specs.Images.{Image, inside, part, bytes_of, fence_in, overwritten}

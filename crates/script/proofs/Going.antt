@@ -1,15 +1,14 @@
 -- A run on its way: the calls read so far are carried out, and their answers stand in the buffer.
-use Rattle.std.proofs.Common.{◌≡◌, ℕ, zero, suc, ◌+◌, ◌-◌, ◌*◌, ◌<◌, ◌≤◌, Bool, true, false, cond, leb, List, [], ◌∷◌, ◌++◌, length, take, drop, Ok, Err, sym, refl, ap, ◌∙◌, subst, append_assoc, append-nil, arith, length-append, drop-drop, take_at, le-leb}
+use Rattle.std.proofs.Common.{◌≡◌, ℕ, zero, suc, ◌+◌, ◌-◌, ◌*◌, ◌<◌, ◌≤◌, Bool, true, cond, leb, List, [], ◌∷◌, ◌++◌, length, take, drop, Ok, Err, sym, refl, ap, ◌∙◌, append_assoc, append-nil, arith, length-append, drop-drop, take_at, le-leb}
 use lib.Seq.{drop-append_seam}
 use Rattle.datasheet.specs.declared.refusal.Refusal.TheVariants.{ShortBuffer}
 use Rattle.datasheet.specs.Chips.{Keeping}
-use Rattle.datasheet.specs.Calls.{Chip, Call, Answer, after, answer, run, answers}
-use Rattle.script.specs.declared.run.Counts.{Counts}
+use Rattle.datasheet.specs.Calls.{Chip, Call, after, answer, run, answers}
 use Rattle.script.specs.declared.steps.Fault.{Fault}
 use Rattle.script.specs.Steps.{First, step, unknown, short, chip_step}
 use Rattle.script.specs.Reading.{Reading, reads, stops, follow, read_from, read_script, counted}
 use Rattle.script.specs.Replies.{answer_bytes, all_bytes}
-use Rattle.script.specs.Runs.{Outcome, playing, outcome_of, outcome, refusing}
+use Rattle.script.specs.Runs.{playing, outcome_of, outcome, refusing}
 use Rattle.script.specs.Views.{first_of, Wrote}
 use Rattle.script.proofs.Sofar.{Sofar, start, more, done}
 use Rattle.script.proofs.Faults.{fault-stops}

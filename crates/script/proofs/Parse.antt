@@ -1,5 +1,5 @@
 -- A step that is whole in the script is the one that is read there.
-use Rattle.std.proofs.Common.{◌≡◌, ℕ, ◌≤◌, Bool, cond, leb, List, length, get_or, drop, sym, ap, ◌∙◌, le-leb}
+use Rattle.std.proofs.Common.{◌≡◌, ℕ, ◌≤◌, Bool, cond, List, length, get_or, drop, sym, ap, ◌∙◌, le-leb}
 use Rattle.script.specs.Steps.{First, step, short, whole}
 
 module _ {C : Type 0} (step_of : ℕ → List ℕ → First C) where

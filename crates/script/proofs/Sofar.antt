@@ -1,7 +1,7 @@
 -- A script that is read as far as rest, with the calls past behind.
-use Rattle.std.proofs.Common.{◌≡◌, ℕ, zero, suc, ◌+◌, ◌-◌, ◌<◌, ◌≤◌, List, [], ◌∷◌, ◌++◌, length, Ok, Err, Result, sym, refl, ap, ◌∙◌, arith, length-append}
+use Rattle.std.proofs.Common.{◌≡◌, ℕ, zero, suc, ◌+◌, ◌-◌, ◌<◌, ◌≤◌, List, [], ◌∷◌, ◌++◌, length, Ok, Err, sym, refl, ap, ◌∙◌, arith, length-append}
 use Rattle.datasheet.specs.declared.refusal.Refusal.{Refusal}
-use Rattle.script.specs.Steps.{First, step, unknown, short}
+use Rattle.script.specs.Steps.{First, step}
 use Rattle.script.specs.Reading.{Reading, reads, stops, follow, read_from, read_script, counted}
 
 module _ {C : Type 0} (first : List ℕ → First C) where

@@ -3,7 +3,7 @@ use Rattle.std.proofs.Common.{◌≡◌, ℕ, ◌*◌, Bool, true, false, cond, 
 use Rattle.datasheet.specs.declared.registers.Registers.{Registers}
 use Rattle.datasheet.specs.declared.refusal.Refusal.TheVariants.{ShortBuffer}
 use Rattle.datasheet.specs.Chips.{whole}
-use Rattle.datasheet.specs.Calls.{Chip, Call, Answer, run, answers}
+use Rattle.datasheet.specs.Calls.{Chip, Call, Answer, answers}
 use Rattle.datasheet.specs.Kept.{bounded, kept_chip}
 use Rattle.laws.proofs.Follow.{enough}
 use Rattle.script.specs.Steps.{chip_step}

@@ -1,7 +1,7 @@
 -- The table of a shield: a range more, a range widened, and the first place that a range has.
-use Rattle.std.proofs.Common.{◌≡◌, ℕ, zero, suc, ◌+◌, ◌-◌, ◌^◌, ◌<◌, ◌≤◌, min, Bool, true, false, cond, ◌||◌, ltb, ◌⊎◌, List, [], ◌∷◌, ◌++◌, length, get_or, take, set, Some, None, Option, sym, refl, ap, ◌∙◌, inl, inr, add-zero, add-suc, suc-add, add-one, arith, le-ltb, lt-ltb}
+use Rattle.std.proofs.Common.{◌≡◌, ℕ, zero, suc, ◌+◌, ◌^◌, ◌<◌, ◌≤◌, min, Bool, true, false, cond, ◌||◌, ltb, ◌⊎◌, List, [], ◌∷◌, ◌++◌, length, get_or, take, set, Some, None, sym, refl, ap, ◌∙◌, inl, inr, arith, le-ltb, lt-ltb}
 use Rattle.std.proofs.lemmas.Bool.{cases_lt}
-use Rattle.std.proofs.lemmas.List.{length-take-le, take_more_set, take-set-le, take_more, get_or-take}
+use Rattle.std.proofs.lemmas.List.{length-take-le, take_more_set, get_or-take}
 use Rattle.image.specs.declared.Range.{Range}
 use Rattle.image.specs.Layers.{has, covered, widened}
 use Rattle.shield.specs.Shields.{widened_at, first_covered, Clear}

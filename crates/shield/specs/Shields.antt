@@ -1,8 +1,7 @@
 -- The ranges of a shield, and what it shows of the board below.
-use Rattle.std.specs.Prelude.{◌≡◌, ℕ, zero, suc, ◌+◌, ◌<◌, ◌≤◌, min, Bool, false, cond, List, [], ◌∷◌, length, take, Some, None, Option, nat_lt, slice_index_or, slice_set}
+use Rattle.std.specs.Prelude.{◌≡◌, ℕ, zero, suc, ◌+◌, ◌<◌, ◌≤◌, min, false, cond, List, length, take, Some, None, Option, nat_lt, slice_index_or, slice_set}
 use Rattle.image.specs.declared.Range.{Range}
-use Rattle.image.specs.Images.{Image}
-use Rattle.image.specs.Layers.{covered, shielded, widened}
+use Rattle.image.specs.Layers.{covered, widened}
 use Rattle.shield.specs.declared.ranges.Ranges.{Ranges}
 
 -- the ranges that count

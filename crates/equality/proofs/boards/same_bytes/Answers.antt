@@ -1,6 +1,5 @@
 use Rattle.std.proofs.Common.{◌≡◌, true, length, take, refl, ◌∙◌, arith, rules}
 use Rattle.std.proofs.lemmas.List.{places}
-use Rattle.image.specs.declared.Cell.{Cell}
 use Rattle.equality.proofs.Sides.{part-more, part_same, parts_all}
 use Rattle.equality.proofs.boards.same_bytes.Goals as goal
 

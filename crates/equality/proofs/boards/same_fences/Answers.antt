@@ -1,4 +1,4 @@
-use Rattle.std.proofs.Common.{◌≡◌, ℕ, ◌+◌, ◌-◌, ◌<◌, ◌≤◌, length, Some, None, sym, refl, ap, ◌∙◌, arith, rules}
+use Rattle.std.proofs.Common.{◌≡◌, ◌-◌, length, Some, None, sym, refl, ap, ◌∙◌, arith, rules}
 use Rattle.image.specs.Images.{fence_in}
 use Rattle.equality.specs.Sides.{fences_of}
 use Rattle.equality.proofs.Sides.{fence-is, hop, hop-within, hop-none, hop-differs, parts_all}

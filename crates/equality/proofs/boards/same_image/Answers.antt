@@ -1,4 +1,4 @@
-use Rattle.std.proofs.Common.{◌≡◌, Decides, ◌∙◌, rules}
+use Rattle.std.proofs.Common.{◌≡◌, Decides, rules}
 use Rattle.equality.proofs.Sides.{sides-same}
 use Rattle.equality.proofs.boards.same_image.Goals as goal
 

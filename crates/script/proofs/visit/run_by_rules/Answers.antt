@@ -1,9 +1,9 @@
-use Rattle.std.proofs.Common.{◌≡◌, Bool, List, sym, refl, ap, ◌∙◌, rules}
+use Rattle.std.proofs.Common.{◌≡◌, Bool, List, ap, ◌∙◌}
 use Rattle.datasheet.specs.declared.registers.Registers.{Registers}
 use Rattle.datasheet.specs.Calls.{Chip}
 use Rattle.datasheet.specs.Kept.{bounded, kept_chip}
 use Rattle.script.specs.Runs.{Outcome, outcome}
-use Rattle.script.proofs.Whole.{same_outcome, kept_outcome}
+use Rattle.script.proofs.Whole.{same_outcome}
 use Rattle.script.proofs.visit.run_by_rules.Goals as goal
 
 pub returns : goal.returns

@@ -1,4 +1,4 @@
-use Rattle.std.proofs.Common.{Ok, Err, Option, sym, refl, ap, ◌∙◌, ap₂}
+use Rattle.std.proofs.Common.{Ok, Err, Option, refl, ap, ◌∙◌}
 use Rattle.std.proofs.lemmas.Result.{err_from_is_err_and}
 use Rattle.image.specs.Layers.{shielded}
 use Rattle.image.specs.Lent.{under}

@@ -1,5 +1,4 @@
 use Rattle.std.proofs.Common.{refl, ap, ◌∙◌}
-use Rattle.image.specs.Images.{Image}
 use Rattle.image.specs.Layers.{shielded}
 use Rattle.image.specs.Lent.{under}
 use Rattle.shield.specs.Shields.{ranges_of}

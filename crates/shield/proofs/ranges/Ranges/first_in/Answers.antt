@@ -1,8 +1,8 @@
-use Rattle.std.proofs.Common.{◌≡◌, ℕ, ◌+◌, ◌<◌, true, List, get_or, take, sym, ap, ◌∙◌, subst, arith}
+use Rattle.std.proofs.Common.{◌≡◌, ◌+◌, true, List, get_or, take, sym, ◌∙◌, subst, arith}
 use Rattle.std.proofs.lemmas.List.{take_more, take_all}
 use Rattle.image.specs.declared.Range.{Range}
 use Rattle.image.specs.Layers.{covered}
-use Rattle.shield.specs.Shields.{Clear, first_covered}
+use Rattle.shield.specs.Shields.{Clear}
 use Rattle.shield.proofs.Tables.{clear-more, found-more, fits_more, first_found, none_found}
 use Rattle.shield.proofs.ranges.Ranges.first_in.Goals as goal
 
