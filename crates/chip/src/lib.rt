@@ -2,6 +2,7 @@
 #![tactic(auto)]
 
 mod chip;
-mod selection;
+mod session;
+mod status;
 
 pub use chip::{Chip, ParkedChip};

@@ -7,7 +7,7 @@ ghost use Rattle.std.specs.Prelude.{◌≡◌, ◌≤◌, length, IfOk};
 ghost use Rattle.chip_script.specs.Faults.{fault_bytes};
 
 use chip::ParkedChip;
-use datasheet::{Refusal, Sheet};
+use datasheet::{Part, Refusal, Sheet};
 use script::{Counts, chip_visit};
 use std::io;
 use std::io::{Read, Write};
@@ -38,7 +38,7 @@ fn fault_bytes(refusal: Refusal) -> [u8; 4]
     let place = refusal.place().unwrap_or(0);
     [
         0x7E,
-        refusal.number(),
+        u8::from(refusal),
         (place / 256 % 256) as u8,
         (place % 256) as u8,
     ]
@@ -49,7 +49,7 @@ fn main(rt: HostRuntime) -> io::Result<()> {
     let mut answers = [0u8; 9 * MOST];
     let mut memory = [0u8; CELLS];
     let n = read_up_to(&mut rt.stdin(), &mut script)?;
-    let parked = ParkedChip::new(Sheet::mb85rs64vy(0x00, 0x02), 0);
+    let parked = ParkedChip::new(Sheet::of(Part::Mb85rs64vy, 0x00, 0x02), 0);
     let (result, parked) = chip_visit(parked, &mut memory, &script[0..n], &mut answers);
     let _ = parked.into_parts();
     match result {

@@ -2,6 +2,7 @@ pub mod Bits
 pub mod Levels
 pub mod Refusals
 pub mod Sheets
+pub mod Parts
 pub mod Records
 pub mod Protection
 pub mod Commands

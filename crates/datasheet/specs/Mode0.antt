@@ -1,6 +1,6 @@
 -- A session put to the pins in SPI mode 0 with WP and HOLD high: SCK rests low, and each bit is a rise and a fall.
-use Rattle.std.specs.Prelude.{ℕ, Bool, true, false, cond, List, [], ◌∷◌, ◌++◌}
-use Rattle.datasheet.specs.declared.level.Level.TheVariants.{Low, High, HighZ}
+use Rattle.std.specs.Prelude.{ℕ, Bool, true, cond, List, [], ◌∷◌, ◌++◌}
+use Rattle.datasheet.specs.Levels.{read_as}
 use Rattle.datasheet.specs.Bits.{bits_of}
 use Rattle.datasheet.specs.Calls.{Call, Call.sample, Answer, shows, done, refused}
 
@@ -18,11 +18,9 @@ clocks (b ∷ bs) = sample (cond b 0x1E 0x1A) ∷ sample (cond b 0x1C 0x18) ∷ 
 abbrev pub session : List Bool → List Call
 session bits = sample 0x18 ∷ clocks bits
 
--- the bit that is read off SO; high-Z is read as 1
+-- the bit that is read off SO, from an answer; what shows nothing is read as high-Z is
 abbrev pub bit_read : Answer → Bool
-bit_read (shows Low) = false
-bit_read (shows High) = true
-bit_read (shows HighZ) = true
+bit_read (shows level) = read_as level
 bit_read done = true
 bit_read (refused n) = true
 

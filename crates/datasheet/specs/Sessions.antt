@@ -1,5 +1,5 @@
 -- A session is the list of the bits taken so far, the first bit first. It has no limit.
-use Rattle.std.specs.Prelude.{ℕ, ◌+◌, ◌-◌, ◌/◌, ◌%◌, Bool, List, length, take, drop}
+use Rattle.std.specs.Prelude.{ℕ, ◌+◌, ◌-◌, ◌/◌, ◌%◌, Bool, List, length, take, drop, Option}
 use Rattle.datasheet.specs.declared.sheet.Sheet.{Sheet}
 use Rattle.datasheet.specs.declared.command.Command.{Command}
 use Rattle.datasheet.specs.Bits.{number, byte_after}
@@ -7,7 +7,7 @@ use Rattle.datasheet.specs.Sheets.{cells}
 use Rattle.datasheet.specs.Commands.{command_at}
 
 -- bits 1 to 8 are the op-code
-abbrev pub command : Sheet → List Bool → Command
+abbrev pub command : Sheet → List Bool → Option Command
 command s bits = command_at s (length bits) (byte_after 0 bits)
 
 -- the address is bits 9 to 24, modulo the number of cells

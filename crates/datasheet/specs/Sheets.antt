@@ -43,9 +43,3 @@ marks256b = record { drop = true; sleep = false; fast = true }
 abbrev pub Made : ℕ → ℕ → Marks → Result Sheet Refusal → Type 0
 Made t f marks (Ok s) = (is_sheet t ≡ true) × (s.t ≡ t) × (s.f ≡ f) × (s.marks ≡ marks)
 Made t f marks (Err e) = (is_sheet t ≡ false) × (e ≡ NoSheet)
-
--- the sheet of a part with density d and these marks; the upper bits of t, and f, are the caller's
-pub record Part (d : ℕ) (marks : Marks) (upper f : ℕ) (s : Sheet) : Type 0 where
-  pub third : s.t ≡ third_byte upper d
-  pub fourth : s.f ≡ f
-  pub marked : s.marks ≡ marks

@@ -1,4 +1,5 @@
-// The commands, by the names that the op-code tables give them.
+// The commands, by the names that the op-code tables give them. An op-code that the sheet lacks is none of them, nor are
+// fewer than eight bits.
 #[derive(Clone, Copy, Drop)]
 pub enum Command {
     Wren,
@@ -10,6 +11,4 @@ pub enum Command {
     Rdid,
     Fstrd,
     Sleep,
-    // an op-code that the sheet lacks, or fewer than eight bits
-    NoCommand,
 }

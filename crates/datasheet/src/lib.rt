@@ -4,6 +4,7 @@
 
 mod command;
 mod level;
+mod part;
 mod refusal;
 mod registers;
 mod sample;
@@ -11,6 +12,7 @@ mod sheet;
 
 pub use command::Command;
 pub use level::Level;
+pub use part::Part;
 pub use refusal::Refusal;
 pub use registers::Registers;
 pub use sample::Sample;

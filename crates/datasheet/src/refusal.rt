@@ -27,11 +27,23 @@ pub enum Refusal {
 }
 
 impl Refusal {
-    // The number by which a refusal is known, from 1 to 10.
-    pub fn number(self) -> u8
-        ensures { result ≡ refusal_number self }
+    // The place of the kind byte, where a step of a script is at fault.
+    pub fn place(self) -> Option<usize>
+        ensures { result ≡ refusal_place self }
     {
         match self {
+            Refusal::UnknownKind { place } | Refusal::ShortStep { place } => Some(place),
+            _ => None,
+        }
+    }
+}
+
+// The number by which a refusal is known, from 1 to 10.
+impl From<Refusal> for u8 {
+    ghost from_gives = { λ refusal number. number ≡ refusal_number refusal };
+
+    fn from(refusal: Refusal) -> u8 {
+        match refusal {
             Refusal::NoSheet => 1,
             Refusal::MemoryLength => 2,
             Refusal::NotASample => 3,
@@ -42,16 +54,6 @@ impl Refusal {
             Refusal::UnknownKind { .. } => 8,
             Refusal::ShortStep { .. } => 9,
             Refusal::ShortBuffer => 10,
-        }
-    }
-
-    // The place of the kind byte, where a step of a script is at fault.
-    pub fn place(self) -> Option<usize>
-        ensures { result ≡ refusal_place self }
-    {
-        match self {
-            Refusal::UnknownKind { place } | Refusal::ShortStep { place } => Some(place),
-            _ => None,
         }
     }
 }

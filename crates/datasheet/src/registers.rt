@@ -31,11 +31,11 @@ impl Registers {
     }
 
     // The command of the session; none before the op-code is whole.
-    pub fn command(self, sheet: Sheet) -> Command
+    pub fn command(self, sheet: Sheet) -> Option<Command>
         ensures { result ≡ command_at sheet self.count self.code }
     {
         if self.count < 8 {
-            Command::NoCommand
+            None
         } else {
             sheet.command(self.code)
         }
@@ -67,7 +67,7 @@ impl Registers {
         if self.count < 8 {
             self.place
         } else if self.count < 24 {
-            ((2 * place + bit as usize) % sheet.cells()) as u16
+            ((2 * place + usize::from(bit)) % sheet.cells()) as u16
         } else if turns(first_data(self.command(sheet)), self.count) {
             ((place + 1) % sheet.cells()) as u16
         } else {
@@ -80,15 +80,15 @@ impl Registers {
 fn shifted(register: u8, bit: bool) -> u8
     ensures { result ≡ (2 * register + value_of bit) % 256 }
 {
-    (2 * (register % 128)) + bit as u8
+    (2 * (register % 128)) + u8::from(bit)
 }
 
 // The number of bits before the first data bit.
-fn first_data(command: Command) -> u8
+fn first_data(command: Option<Command>) -> u8
     ensures { result ≡ first_data command }
 {
     match command {
-        Command::Fstrd => 32,
+        Some(Command::Fstrd) => 32,
         _ => 24,
     }
 }

@@ -14,11 +14,30 @@ pub struct Sample {
 }
 
 impl Sample {
-    // The levels that a byte stands for: bit 0 CS, bit 1 SCK, bit 2 SI, bit 3 WP, bit 4 HOLD.
-    // A byte with a bit 5, 6 or 7 is no sample.
-    pub fn from_byte(byte: u8) -> Result<Sample, Refusal>
-        ensures { result ≡ sample_of byte }
-    {
+    // CS low, a session open: SCK and SI low, WP and HOLD high.
+    pub const SELECTED: Sample = Sample {
+        cs: false,
+        sck: false,
+        si: false,
+        wp: true,
+        hold: true,
+    };
+
+    // CS high, no session open.
+    pub const DESELECTED: Sample = Sample {
+        cs: true,
+        ..Sample::SELECTED
+    };
+}
+
+// The levels that a byte stands for: bit 0 CS, bit 1 SCK, bit 2 SI, bit 3 WP, bit 4 HOLD.
+// A byte with a bit 5, 6 or 7 is no sample.
+impl TryFrom<u8> for Sample {
+    type Error = Refusal;
+
+    ghost try_from_gives = { λ byte r. r ≡ sample_of byte };
+
+    fn try_from(byte: u8) -> Result<Sample, Refusal> {
         if byte >= 32 {
             return Err(Refusal::NotASample);
         }
@@ -30,23 +49,17 @@ impl Sample {
             hold: byte / 16 % 2 == 1,
         })
     }
+}
 
-    // The levels, each by its weight.
-    fn weighed(self) -> u8
-        ensures { result ≡ byte_of self }
-    {
-        self.cs as u8
-            + 2 * self.sck as u8
-            + 4 * self.si as u8
-            + 8 * self.wp as u8
-            + 16 * self.hold as u8
-    }
+// The byte of a sample, which stands for these levels.
+impl From<Sample> for u8 {
+    ghost from_gives = { λ sample byte. (byte ≡ byte_of sample) × (sample_of byte ≡ Ok sample) };
 
-    // The byte of a sample, which stands for these levels.
-    pub fn byte(self) -> u8
-        ensures byte { result ≡ byte_of self }
-        ensures back { sample_of result ≡ Ok self }
-    {
-        self.weighed()
+    fn from(sample: Sample) -> u8 {
+        u8::from(sample.cs)
+            + 2 * u8::from(sample.sck)
+            + 4 * u8::from(sample.si)
+            + 8 * u8::from(sample.wp)
+            + 16 * u8::from(sample.hold)
     }
 }

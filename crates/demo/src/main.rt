@@ -3,43 +3,32 @@
 
 use board::{Board, Plain};
 use chip::{Chip, ParkedChip};
-use datasheet::{Level, Refusal, Sheet};
+use datasheet::{Level, Part, Refusal, Sample, Sheet};
 use equality::compare;
 use join::Join;
 use shield::Shield;
 use std::io;
 use window::Window;
 
-// The pins as bits of a sample byte.
-const CS: u8 = 0x01;
-
-const SCK: u8 = 0x02;
-
-const SI: u8 = 0x04;
-
-const WP: u8 = 0x08;
-
-const HOLD: u8 = 0x10;
-
-// CS low, with WP and HOLD high.
-const SELECTED: u8 = WP | HOLD;
+// HOLD low, with SCK low.
+const HELD: Sample = Sample {
+    hold: false,
+    ..Sample::SELECTED
+};
 
 // What SO shows after a sample; a refused sample drives nothing.
-fn put(chip: &mut Chip<'_>, sample: u8) -> Level {
-    match chip.sample(sample) {
-        Ok(level) => level,
-        Err(_) => Level::HighZ,
-    }
+fn put(chip: &mut Chip<'_>, sample: Sample) -> Level {
+    chip.sample(u8::from(sample)).unwrap_or(Level::HighZ)
 }
 
 // CS falls: a session begins.
 fn select(chip: &mut Chip<'_>) {
-    let _ = put(chip, SELECTED);
+    let _ = put(chip, Sample::SELECTED);
 }
 
 // CS rises: the session ends.
 fn deselect(chip: &mut Chip<'_>) {
-    let _ = put(chip, SELECTED | CS);
+    let _ = put(chip, Sample::DESELECTED);
 }
 
 // The first `bits` bits of a byte, each a rise and a fall of SCK with SI at the bit. What SO shows at the rises is answered,
@@ -48,11 +37,14 @@ fn clock(chip: &mut Chip<'_>, byte: u8, bits: u8) -> u8 {
     let mut read = 0;
     for i in 0..bits.min(8) {
         let mask = 0x80u8 >> i;
-        let si = if byte & mask != 0 { SI } else { 0 };
-        if put(chip, SELECTED | si | SCK) != Level::Low {
+        let fall = Sample {
+            si: byte & mask != 0,
+            ..Sample::SELECTED
+        };
+        if put(chip, Sample { sck: true, ..fall }).bit() {
             read |= mask;
         }
-        let _ = put(chip, SELECTED | si);
+        let _ = put(chip, fall);
     }
     read
 }
@@ -60,10 +52,11 @@ fn clock(chip: &mut Chip<'_>, byte: u8, bits: u8) -> u8 {
 // A whole session: every byte of `sent` is clocked, and `read` has what is read, as far as it reaches.
 fn session(chip: &mut Chip<'_>, sent: &[u8], read: &mut [u8]) {
     select(chip);
-    for (i, byte) in sent.iter().enumerate() {
+    let mut places = read.iter_mut();
+    for byte in sent {
         let seen = clock(chip, *byte, 8);
-        if i < read.len() {
-            read[i] = seen;
+        if let Some(place) = places.next() {
+            *place = seen;
         }
     }
     deselect(chip);
@@ -72,12 +65,12 @@ fn session(chip: &mut Chip<'_>, sent: &[u8], read: &mut [u8]) {
 // HOLD goes low, SCK runs on for some clocks that do not count, and HOLD is released with SCK low. Answers what SO showed
 // while HOLD was low.
 fn hold(chip: &mut Chip<'_>, clocks: u8) -> Level {
-    let mut shown = put(chip, WP);
+    let mut shown = put(chip, HELD);
     for _ in 0..clocks {
-        let _ = put(chip, WP | SCK);
-        shown = put(chip, WP);
+        let _ = put(chip, Sample { sck: true, ..HELD });
+        shown = put(chip, HELD);
     }
-    let _ = put(chip, SELECTED);
+    let _ = put(chip, Sample::SELECTED);
     shown
 }
 
@@ -94,12 +87,13 @@ fn print_bytes(rt: &HostRuntime, bytes: &[u8]) -> io::Result<()> {
 
 // Puts a session to the pins and prints what was sent and what was read.
 fn tell(rt: &HostRuntime, chip: &mut Chip<'_>, what: &str, sent: &[u8]) -> io::Result<()> {
-    let mut read = [0; 16];
-    session(chip, sent, &mut read);
+    let mut buffer = [0; 16];
+    let read = &mut buffer[..sent.len().min(16)];
+    session(chip, sent, read);
     print!(rt; "{what}: sent")?;
     print_bytes(rt, sent)?;
     print!(rt; ", read")?;
-    print_bytes(rt, &read[0..sent.len().min(16)])?;
+    print_bytes(rt, read)?;
     println!(rt; "")
 }
 
@@ -107,11 +101,7 @@ fn tell(rt: &HostRuntime, chip: &mut Chip<'_>, what: &str, sent: &[u8]) -> io::R
 fn pressures(rt: &HostRuntime, chip: &mut Chip<'_>) -> io::Result<()> {
     println!(rt; "A row of pore pressures is written from cell 0100h on and read back.")?;
     tell(rt, chip, "  WREN ", &[0x06])?;
-    let [a, b, c, d] = PRESSURES;
-    let [a1, a0] = a.to_be_bytes();
-    let [b1, b0] = b.to_be_bytes();
-    let [c1, c0] = c.to_be_bytes();
-    let [d1, d0] = d.to_be_bytes();
+    let [[a1, a0], [b1, b0], [c1, c0], [d1, d0]] = PRESSURES.map(u16::to_be_bytes);
     tell(
         rt,
         chip,
@@ -168,19 +158,9 @@ fn held_address(rt: &HostRuntime, chip: &mut Chip<'_>) -> io::Result<()> {
     let first = clock(chip, 0, 8);
     let second = clock(chip, 0, 8);
     deselect(chip);
-    let so = name(shown);
     println!(rt;
-        "  READ : sent 03 01 00 with five held clocks, SO {so} while held, then read {first:02X} {second:02X}"
+        "  READ : sent 03 01 00 with five held clocks, SO {shown} while held, then read {first:02X} {second:02X}"
     )
-}
-
-// What SO shows, in words.
-fn name(level: Level) -> &'static str {
-    match level {
-        Level::Low => "low",
-        Level::High => "high",
-        Level::HighZ => "high-Z",
-    }
 }
 
 // Sleep and waking.
@@ -194,12 +174,9 @@ fn sleep(rt: &HostRuntime, chip: &mut Chip<'_>) -> io::Result<()> {
 // Samples that are no samples.
 fn refused(rt: &HostRuntime, chip: &mut Chip<'_>) -> io::Result<()> {
     match chip.sample(0x20) {
-        Ok(level) => {
-            let so = name(level);
-            println!(rt; "A sample with bit 5 set shows {so}.")
-        }
+        Ok(level) => println!(rt; "A sample with bit 5 set shows {level}."),
         Err(refusal) => {
-            let number = refusal.number();
+            let number = u8::from(refusal);
             println!(rt; "A sample with bit 5 set is refused by {number}, and leaves everything.")
         }
     }
@@ -242,16 +219,24 @@ fn two_chips(rt: &HostRuntime, first: &mut Chip<'_>, second: &mut Chip<'_>) -> i
     write_byte(first, 0x0041, 0xC3);
     write_byte(second, 0x0041, 0xC3);
     write_byte(second, 0x0040, 0x5A);
-    tell_apart(rt, first, second)?;
+    tell_apart(rt, Chips { first, second })?;
     println!(rt; "The second is put to sleep.")?;
     session(second, &[0xB9], &mut []);
-    tell_apart(rt, first, second)?;
-    piles(rt, first, second)
+    let chips = Chips { first, second };
+    tell_apart(rt, chips)?;
+    piles(rt, chips)
+}
+
+// Two chips that are compared.
+#[derive(Clone, Copy)]
+struct Chips<'c, 'm> {
+    first: &'c Chip<'m>,
+    second: &'c Chip<'m>,
 }
 
 // Whether any samples could tell two resting chips apart.
-fn tell_apart(rt: &HostRuntime, first: &Chip<'_>, second: &Chip<'_>) -> io::Result<()> {
-    if first.same_record(second) {
+fn tell_apart(rt: &HostRuntime, chips: Chips<'_, '_>) -> io::Result<()> {
+    if chips.first.same_record(chips.second) {
         println!(rt; "  equal records: no list of samples and power cycles tells them apart")
     } else {
         println!(rt; "  unequal records: some list of samples and power cycles tells them apart")
@@ -263,7 +248,7 @@ fn tell_call(rt: &HostRuntime, what: &str, res: Result<(), Refusal>) -> io::Resu
     match res {
         Ok(()) => println!(rt; "  {what}: accepted"),
         Err(refusal) => {
-            let number = refusal.number();
+            let number = u8::from(refusal);
             println!(rt; "  {what}: refused by {number}")
         }
     }
@@ -288,12 +273,11 @@ fn tell_board<B: Board>(rt: &HostRuntime, board: &mut B) -> io::Result<()> {
 // Compares two boards, beside two chips, and prints what came out.
 fn tell_equal<P: Board, Q: Board>(
     rt: &HostRuntime,
-    first: &Chip<'_>,
-    second: &Chip<'_>,
+    chips: Chips<'_, '_>,
     left: &mut P,
     right: &mut Q,
 ) -> io::Result<()> {
-    let same = compare(first, second, left, right);
+    let same = compare(chips.first, chips.second, left, right);
     if same.chips {
         println!(rt; "  the chips: equal")?;
     } else {
@@ -326,12 +310,7 @@ fn writes<B: Board>(rt: &HostRuntime, board: &mut Shield<B>) -> io::Result<()> {
 }
 
 // Two piles built differently, that come to hold the same image and then another.
-fn two_piles<B: Board>(
-    rt: &HostRuntime,
-    first: &Chip<'_>,
-    second: &Chip<'_>,
-    left: &mut B,
-) -> io::Result<()> {
+fn two_piles<B: Board>(rt: &HostRuntime, chips: Chips<'_, '_>, left: &mut B) -> io::Result<()> {
     println!(rt;
         "A second pile: 24 bytes of plain memory get the same bytes, and a shield of two ranges."
     )?;
@@ -340,14 +319,14 @@ fn two_piles<B: Board>(
     let mut right = Shield::new(Plain::new(&mut memory));
     tell_call(rt, "range from 8 of 4", right.add(8, 4))?;
     tell_call(rt, "range from 6 of 3", right.add(6, 3))?;
-    tell_equal(rt, first, second, left, &mut right)?;
+    tell_equal(rt, chips, left, &mut right)?;
     println!(rt; "One byte of the second pile is written.")?;
     tell_call(rt, "write of 1 byte at 0", right.write(0, &[0x01]))?;
-    tell_equal(rt, first, second, left, &mut right)
+    tell_equal(rt, chips, left, &mut right)
 }
 
 // A pile of layers over plain memory.
-fn piles(rt: &HostRuntime, first: &Chip<'_>, second: &Chip<'_>) -> io::Result<()> {
+fn piles(rt: &HostRuntime, chips: Chips<'_, '_>) -> io::Result<()> {
     println!(rt;
         "A pile: a shield over a join of a window, eight cells from 4 on of 16 bytes, and 16 bytes more."
     )?;
@@ -356,11 +335,11 @@ fn piles(rt: &HostRuntime, first: &Chip<'_>, second: &Chip<'_>) -> io::Result<()
     let window = Window::new(Plain::new(&mut lower), 4, 8);
     let mut pile = Shield::new(Join::new(window, Plain::new(&mut upper)));
     writes(rt, &mut pile)?;
-    two_piles(rt, first, second, &mut pile)
+    two_piles(rt, chips, &mut pile)
 }
 
 fn main(rt: HostRuntime) -> io::Result<()> {
-    let sheet = Sheet::mb85rs64vy(0x00, 0x02);
+    let sheet = Sheet::of(Part::Mb85rs64vy, 0x00, 0x02);
     let cells = sheet.cells();
     println!(rt; "An MB85RS64VY with {cells} cells is powered over lent memory, all zeros.")?;
     let mut memory = [0u8; 8192];

@@ -1,5 +1,5 @@
 -- Two deselected fitted chips of one sheet have equal records exactly when no list of calls tells them apart.
-use Rattle.std.proofs.Common.{◌≡◌, ℕ, ◌+◌, ◌-◌, ◌%◌, ◌^◌, ◌<◌, ◌≤◌, Bool, true, false, cond, eqb, List, [], ◌∷◌, ◌++◌, length, get_or, take, drop, sym, refl, ap, ◌∙◌, subst, lt_trans, add-zero, mod-eq_of_lt, arith}
+use Rattle.std.proofs.Common.{◌≡◌, ℕ, ◌+◌, ◌-◌, ◌%◌, ◌^◌, ◌<◌, ◌≤◌, Bool, true, false, cond, eqb, List, [], ◌∷◌, ◌++◌, length, get_or, take, drop, sym, refl, ap, ◌∙◌, subst, lt_trans, add-zero, mod-eq_of_lt, arith, Option}
 use native.Mathlib.Nat.{mod-mod}
 use Rattle.std.proofs.lemmas.Nat.{pow_below}
 use Rattle.std.proofs.lemmas.List.{ext_get_or, length_push}
@@ -27,7 +27,7 @@ use Rattle.laws.proofs.Stays.{Good, good}
 -- ## Sessions that change nothing
 
 -- a command that only reads
-abbrev Reads : Sheet → Command → Type 0
+abbrev Reads : Sheet → Option Command → Type 0
 Reads s c = (wp : Bool) (r : Record) (n a x : ℕ) → effect s c wp r n a x ≡ r
 
 -- after these bits, no rise that takes one of the bits bs changes the record

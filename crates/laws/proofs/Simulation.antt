@@ -1,11 +1,11 @@
 -- What a bounded chip keeps of a session follows the session bit by bit, and the rules read no more of it.
-use Rattle.std.proofs.Common.{◌≡◌, ℕ, ◌+◌, ◌-◌, ◌*◌, ◌/◌, ◌%◌, ◌<◌, ◌≤◌, Bool, true, false, cond, ltb, leb, ◌⊎◌, List, [], ◌∷◌, ◌++◌, length, take, drop, sym, refl, ap, ◌∙◌, inl, inr, add_assoc, arith}
+use Rattle.std.proofs.Common.{◌≡◌, ℕ, ◌+◌, ◌-◌, ◌*◌, ◌/◌, ◌%◌, ◌<◌, ◌≤◌, Bool, true, false, cond, ltb, leb, ◌⊎◌, List, [], ◌∷◌, ◌++◌, length, take, drop, sym, refl, ap, ◌∙◌, inl, inr, add_assoc, arith, Some, None, Option}
 use native.Mathlib.Nat.{zero-mod, mod-add-mod, mod-add-div', add-mul-mod_self_right, mod-mod}
 use Rattle.std.proofs.lemmas.List.{length_push, drop_all}
 use Rattle.std.proofs.lemmas.Bool.{cases_lt, lt-ltb, le-ltb}
 use Rattle.datasheet.specs.declared.sheet.Sheet.{Sheet}
 use Rattle.datasheet.specs.declared.command.Command.{Command}
-use Rattle.datasheet.specs.declared.command.Command.TheVariants.{Write, NoCommand}
+use Rattle.datasheet.specs.declared.command.Command.TheVariants.{Write}
 use Rattle.datasheet.specs.declared.registers.Registers.{Registers}
 use Rattle.datasheet.specs.Bits.{bit, number, byte_after}
 use Rattle.datasheet.specs.Sheets.{cells}
@@ -67,10 +67,10 @@ command-kept s bits b h =
     rw (window-kept 0 8 bits b h, le-ltb (length bits) 8 h, le-ltb (length (bits ++ b ∷ [])) 8 (simp length_push (omega arith)))
 
 command-counted : (s : Sheet) (n c : ℕ) → command_at s (counted n) c ≡ command_at s n c
-command-counted s n c = ap (λ (t : Bool). cond t NoCommand (command_of s c)) (counted-ltb n 8 (omega arith))
+command-counted s n c = ap (λ (t : Bool). cond t None (command_of s c)) (counted-ltb n 8 (omega arith))
 
 -- the address counter
-turned : (c : Command) (n : ℕ) →
+turned : (c : Option Command) (n : ℕ) →
     (n + 1 - first_data c) / 8 ≡ cond (turns (first_data c) (counted n)) ((n - first_data c) / 8 + 1) ((n - first_data c) / 8)
 turned c n = grind arith
 
@@ -78,7 +78,7 @@ step-mod : (g : Bool) (a q m : ℕ) → (a + cond g (q + 1) q) % m ≡ cond g ((
 step-mod true a q m = rw (← add_assoc a q 1) (sym (mod-add-mod (a + q) m 1))
 step-mod false a q m = refl
 
-cell-early : (s : Sheet) (c : Command) (bits : List Bool) → length bits ≤ 24 → cell_at s (first_data c) bits ≡ address s bits
+cell-early : (s : Sheet) (c : Option Command) (bits : List Bool) → length bits ≤ 24 → cell_at s (first_data c) bits ≡ address s bits
 cell-early s c bits h =
     let z : address s bits + (length bits - first_data c) / 8 ≡ address s bits = grind arith in
     rw z (mod-mod (number (take 16 (drop 8 bits))) (cells s))
@@ -95,10 +95,10 @@ place-more s bits b =
     n : ℕ
     n = length bits
 
-    place : Command → ℕ
+    place : Option Command → ℕ
     place c = cell_at s (first_data c) bits
 
-    go : (c c' : Command) → (8 ≤ n → c' ≡ c) → length bits' ≡ n + 1 → (n < 8) ⊎ (8 ≤ n) → (n < 24) ⊎ (24 ≤ n) →
+    go : (c c' : Option Command) → (8 ≤ n → c' ≡ c) → length bits' ≡ n + 1 → (n < 8) ⊎ (8 ≤ n) → (n < 24) ⊎ (24 ≤ n) →
         cell_at s (first_data c') bits'
         ≡ cond (ltb n 8) (place c)
         (cond (ltb n 24) ((2 * place c + bit b) % cells s)
@@ -116,7 +116,7 @@ place-more s bits b =
 -- no bit, and one bit more
 pub kept-none : (s : Sheet) → kept s [] ≡ cleared
 kept-none s i =
-    let p = cell-early s NoCommand [] (omega arith) ∙ address-early s [] (omega arith) in
+    let p = cell-early s None [] (omega arith) ∙ address-early s [] (omega arith) in
     record { count = 0; code = 0; place = p i; shift = 0 }
 
 pub kept_more : (s : Sheet) (bits : List Bool) (b : Bool) → kept s (bits ++ b ∷ []) ≡ taken s (kept s bits) b
@@ -129,23 +129,23 @@ kept_more s bits b i =
     }
 
 -- the rules read no more of the number of bits than the bit counter
-effect-same : (s : Sheet) (c : Command) (wp : Bool) (r : Record) (n a a' x : ℕ) → (c ≡ Write → 32 ≤ n → n % 8 ≡ 0 → a ≡ a') →
+effect-same : (s : Sheet) (c : Option Command) (wp : Bool) (r : Record) (n a a' x : ℕ) → (c ≡ Some Write → 32 ≤ n → n % 8 ≡ 0 → a ≡ a') →
     effect s c wp r (counted n) a x ≡ effect s c wp r n a' x
 effect-same s c wp r n a a' x h = grind arith
 
-shown-same : (s : Sheet) (c : Command) (r : Record) (n a : ℕ) → shown s c r (counted n) a ≡ shown s c r n a
+shown-same : (s : Sheet) (c : Option Command) (r : Record) (n a : ℕ) → shown s c r (counted n) a ≡ shown s c r n a
 shown-same s c r n a = grind arith
 
-ended_same : (s : Sheet) (c : Command) (r : Record) (n : ℕ) → ended s c r (counted n) ≡ ended s c r n
+ended_same : (s : Sheet) (c : Option Command) (r : Record) (n : ℕ) → ended s c r (counted n) ≡ ended s c r n
 ended_same s c r n = grind arith
 
 -- the cell of the data byte that the next bit completes
 write_cell : (s : Sheet) (bits : List Bool) (b : Bool) →
     let bits' = bits ++ b ∷ [] in
-    command s bits' ≡ Write → 32 ≤ length bits' → length bits' % 8 ≡ 0 → (kept s bits).place ≡ cell_at s 32 bits'
+    command s bits' ≡ Some Write → 32 ≤ length bits' → length bits' % 8 ≡ 0 → (kept s bits).place ≡ cell_at s 32 bits'
 write_cell s bits b c e f =
     let l = length_push bits b in
-    let w : command s bits ≡ Write = sym (command-kept s bits b (omega arith)) ∙ c in
+    let w : command s bits ≡ Some Write = sym (command-kept s bits b (omega arith)) ∙ c in
     let q : (length bits - 24) / 8 ≡ (length (bits ++ b ∷ []) - 32) / 8 = omega arith in
     rw (w, q, address_kept s bits b (omega arith))
 

@@ -1,5 +1,5 @@
 -- A fitted chip stays fitted, and a chip of the same sheet.
-use Rattle.std.proofs.Common.{◌≡◌, ℕ, ◌-◌, ◌<◌, Bool, true, false, List, [], ◌∷◌, ◌++◌, length, get_or, set, refl, ◌∙◌, arith}
+use Rattle.std.proofs.Common.{◌≡◌, ℕ, ◌-◌, ◌<◌, Bool, true, false, List, [], ◌∷◌, ◌++◌, length, get_or, set, refl, ◌∙◌, arith, Option}
 use Rattle.std.proofs.lemmas.List.{length-set, get_or-set_same, get_or-set_other, get_or_past}
 use Rattle.datasheet.specs.declared.sheet.Sheet.{Sheet}
 use Rattle.datasheet.specs.declared.command.Command.{Command}
@@ -28,11 +28,11 @@ good c f = grind arith
 pub cell-byte : (m : List ℕ) (a x i : ℕ) → x < 256 → ((j : ℕ) → get_or m j 0 < 256) → get_or (set m a x) i 0 < 256
 cell-byte m a x i h f = let g = f i in grind (arith, get_or-set_same, get_or-set_other, get_or_past, length-set)
 
-effect-good : (s : Sheet) (c : Command) (wp : Bool) (r : Record) (n a x : ℕ) →
+effect-good : (s : Sheet) (c : Option Command) (wp : Bool) (r : Record) (n a x : ℕ) →
     x < 256 → r.asleep ≡ false → Good s r → Good s (effect s c wp r n a x)
 effect-good s c wp r n a x h e f = let k = λ (i : ℕ). cell-byte r.memory a x i h f.bytes in grind (arith, length-set)
 
-ended-good : (s : Sheet) (c : Command) (r : Record) (n : ℕ) → Good s r → Good s (ended s c r n)
+ended-good : (s : Sheet) (c : Option Command) (r : Record) (n : ℕ) → Good s r → Good s (ended s c r n)
 ended-good s c r n f = grind arith
 
 -- a chip stays fitted if what is kept of a session does to its record only what a fitted chip can do

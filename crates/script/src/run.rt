@@ -43,8 +43,8 @@ fn answer_step(chip: &mut Chip<'_>, step: Step, buffer: &mut [u8], at: usize) ->
 {
     match step {
         Step::Sample(byte) => match chip.sample(byte) {
-            Ok(level) => put(buffer, at, &[0x81, level.number()]),
-            Err(refusal) => put(buffer, at, &[0x7F, refusal.number()]),
+            Ok(level) => put(buffer, at, &[0x81, u8::from(level)]),
+            Err(refusal) => put(buffer, at, &[0x7F, u8::from(refusal)]),
         },
         Step::PowerCycle => {
             chip.power_cycle();

@@ -1,16 +1,16 @@
 -- What a row of the trial table says: of a chip, by the rules over the full list of bits; of a window, by its image.
-use Rattle.std.specs.Prelude.{◌≡◌, ℕ, Bool, true, ◌&&◌, List, [], ◌∷◌, map, length, take, replicate, Some, None, Option, ◌==◌, slice_set}
+use Rattle.std.specs.Prelude.{◌≡◌, ℕ, Bool, true, ◌&&◌, List, [], ◌∷◌, map, length, take, replicate, ◌==◌, slice_set}
 use Rattle.std.proofs.Common.{lit≤}
 use Rattle.std.specs.Str.{bytes_eq}
+use Rattle.datasheet.specs.declared.part.Part.{Part}
+use Rattle.datasheet.specs.declared.part.Part.TheVariants.{Mb85rs64vy, Mb85rs128ty, Mb85rs256b}
 use Rattle.datasheet.specs.declared.sheet.Sheet.{Sheet}
 use Rattle.datasheet.specs.Bits.{bit}
-use Rattle.datasheet.specs.Sheets.{cells, marks64vy, marks256b}
+use Rattle.datasheet.specs.Sheets.{cells, marks64vy, marks128ty, marks256b}
 use Rattle.datasheet.specs.Chips.{whole}
 use Rattle.datasheet.specs.Calls.{Chip, powered, run, answers}
 use Rattle.datasheet.specs.Mode0.{bits_of_bytes, session, read_at_rises}
 use Rattle.image.specs.Layers.{plain, windowed}
-use Rattle.trial.specs.declared.Part.{Part}
-use Rattle.trial.specs.declared.Part.TheVariants.{Mb85rs64vy, Mb85rs256b}
 use Rattle.trial.specs.declared.Session.{Session}
 use Rattle.trial.specs.declared.Change.{Change}
 use Rattle.trial.specs.declared.PinCase.{PinCase}
@@ -21,6 +21,7 @@ use Rattle.trial.specs.declared.Case.TheVariants.{Pins, Window}
 -- the sheets of the parts, with f 02h
 abbrev pub sheet_of : Part → Sheet
 sheet_of Mb85rs64vy = record { t = 0x03; f = 0x02; marks = marks64vy; known = (lit≤ tt, lit≤ tt) }
+sheet_of Mb85rs128ty = record { t = 0x04; f = 0x02; marks = marks128ty; known = (lit≤ tt, lit≤ tt) }
 sheet_of Mb85rs256b = record { t = 0x05; f = 0x02; marks = marks256b; known = (lit≤ tt, lit≤ tt) }
 
 -- a memory of zeros
@@ -29,31 +30,25 @@ zeros part = replicate (cells (sheet_of part)) 0
 
 -- the bits of a session
 abbrev pub bits_sent : Session → List Bool
-bits_sent s = take s.bits (bits_of_bytes s.bytes)
+bits_sent s = take s.bits (bits_of_bytes s.bytes.now)
 
--- the chip after a session, where there is one
-abbrev pub sent_to : Chip (List Bool) → Option Session → Chip (List Bool)
-sent_to c (Some s) = run whole c (session (bits_sent s))
-sent_to c None = c
+-- the chip after a session
+abbrev pub sent_to : Chip (List Bool) → Session → Chip (List Bool)
+sent_to c s = run whole c (session (bits_sent s))
 
 -- the chip after these sessions
-abbrev pub all_sent_to : Chip (List Bool) → List (Option Session) → Chip (List Bool)
+abbrev pub all_sent_to : Chip (List Bool) → List Session → Chip (List Bool)
 all_sent_to c [] = c
 all_sent_to c (s ∷ rest) = all_sent_to (sent_to c s) rest
 
--- a memory after a change, where there is one
-abbrev pub changed_by : List ℕ → Option Change → List ℕ
-changed_by memory (Some x) = slice_set memory x.cell x.byte
-changed_by memory None = memory
-
 -- a memory after these changes
-abbrev pub all_changed_by : List ℕ → List (Option Change) → List ℕ
-all_changed_by memory [] = memory
-all_changed_by memory (x ∷ rest) = all_changed_by (changed_by memory x) rest
+abbrev pub changed_by : List ℕ → List Change → List ℕ
+changed_by memory [] = memory
+changed_by memory (x ∷ rest) = changed_by (slice_set memory x.cell x.byte) rest
 
 -- the chip of a row before its last session
 abbrev pub ready : PinCase → Chip (List Bool)
-ready r = all_sent_to (powered (sheet_of r.part) (zeros r.part) r.stored) r.before
+ready r = all_sent_to (powered (sheet_of r.part) (zeros r.part) r.stored) r.before.now
 
 -- the bits that are read in the last session
 abbrev pub bits_read : PinCase → List Bool
@@ -61,14 +56,14 @@ bits_read r = read_at_rises (answers whole (ready r) (session (bits_sent r.last)
 
 -- the memory after the last session
 abbrev pub memory_left : PinCase → List ℕ
-memory_left r = (sent_to (ready r) (Some r.last)).rec.memory
+memory_left r = (sent_to (ready r) r.last).rec.memory
 
 -- the bits that are read are those of the bytes that must be seen, and the memory has the changes of the row and no other;
 -- two bits are compared as numbers
 abbrev pub right_pins : PinCase → Bool
 right_pins r =
-    bytes_eq (map bit (bits_read r)) (map bit (take r.last.bits (bits_of_bytes r.seen)))
-    && bytes_eq (memory_left r) (all_changed_by (zeros r.part) r.changed)
+    bytes_eq (map bit (bits_read r)) (map bit (take r.last.bits (bits_of_bytes r.seen.now)))
+    && bytes_eq (memory_left r) (changed_by (zeros r.part) r.changed.now)
 
 -- the window of a row, over so many cells of plain memory, has the size of the row
 abbrev pub right_window : WindowCase → Bool

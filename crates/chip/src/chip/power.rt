@@ -5,7 +5,7 @@ ghost use Rattle.datasheet.specs.Calls.{powered, cycled};
 ghost use Rattle.chip.specs.Views.{chip_of};
 
 use super::{Chip, ParkedChip};
-use crate::selection::Selection;
+use crate::status::Status;
 use datasheet::Sheet;
 
 impl ParkedChip {
@@ -35,15 +35,11 @@ impl ParkedChip {
         ensures lent { result.memory.ghost_name ≡ memory.entry.ghost_name }
     {
         let ParkedChip { sheet, stored } = self;
-        let fitted = memory.len() == sheet.cells();
         Chip {
             memory,
             sheet,
-            fitted,
-            stored,
-            latch: false,
-            asleep: false,
-            selection: Selection::Deselected,
+            status: Status::powered(stored),
+            session: None,
         }
     }
 }
@@ -53,17 +49,15 @@ impl Chip<'_> {
     pub fn power_off(self) -> ParkedChip
         ensures memory { self.exit.0.now ≡ self.entry.memory.now }
         ensures sheet { result.sheet ≡ self.entry.sheet }
-        ensures stored { result.stored ≡ self.entry.stored }
+        ensures stored { result.stored ≡ self.entry.status.stored }
     {
         let Chip {
             memory: _,
             sheet,
-            fitted: _,
-            stored,
-            latch: _,
-            asleep: _,
-            selection: _,
+            status,
+            session: _,
         } = self;
+        let stored = status.stored;
         ParkedChip { sheet, stored }
     }
 
@@ -72,8 +66,7 @@ impl Chip<'_> {
         ensures state { chip_of self.new ≡ cycled (chip_of self.old) }
         ensures lent { self.new.memory.ghost_name ≡ self.old.memory.ghost_name }
     {
-        self.latch = false;
-        self.asleep = false;
-        self.selection = Selection::Deselected;
+        self.status = Status::powered(self.status.stored);
+        self.session = None;
     }
 }

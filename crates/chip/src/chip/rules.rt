@@ -1,19 +1,15 @@
 // The rules of the chip, over what it keeps of a session.
-ghost use Rattle.std.specs.Prelude.{◌≡◌, ◌<◌, true, false, if◌then◌else◌, slice_index};
+ghost use Rattle.std.specs.Prelude.{◌≡◌, ◌<◌, true, false, if◌then◌else◌, slice_index, slice_set};
 ghost use Rattle.datasheet.specs.Bits.{bit_at};
 ghost use Rattle.datasheet.specs.Levels.{driven};
-ghost use Rattle.datasheet.specs.Records.{status, writing};
-ghost use Rattle.datasheet.specs.Protection.{first_protected, may_write, may_store};
+ghost use Rattle.datasheet.specs.Commands.{command_at};
 ghost use Rattle.datasheet.specs.Rises.{completes, effect};
-ghost use Rattle.datasheet.specs.Falls.{shown};
-ghost use Rattle.datasheet.specs.Ends.{ended};
-ghost use Rattle.datasheet.specs.Chips.{closed};
-ghost use Rattle.datasheet.specs.Kept.{bounded, taken, rise_kept, fall_kept};
+ghost use Rattle.datasheet.specs.Kept.{taken, rise_kept, fall_kept};
 ghost use Rattle.datasheet.specs.declared.level.Level.TheVariants.{HighZ};
 ghost use Rattle.chip.specs.Views.{record_of, SameButRecord};
 
 use super::Chip;
-use datasheet::{Command, Level, Registers};
+use datasheet::{Command, Level, Registers, Sample};
 
 // The level that shows bit i of a number.
 fn bit_level(x: u32, i: u8) -> Level
@@ -34,128 +30,83 @@ fn completes(n: u8) -> bool
     n >= 32 && n % 8 == 0
 }
 
+// The byte in a cell.
+fn cell(memory: &[u8], place: u16) -> u8
+    ensures { result ≡ slice_index memory.now place }
+{
+    memory.get(usize::from(place)).copied().unwrap_or(0)
+}
+
+// Puts a byte into a cell.
+fn write_cell(memory: &mut [u8], place: u16, byte: u8)
+    ensures { memory.new ≡ slice_set memory.old place byte }
+{
+    // not by `get_mut`: after its loan the library says nothing of what a slice holds
+    let place = usize::from(place);
+    if place < memory.len() {
+        memory[place] = byte;
+    }
+}
+
 impl Chip<'_> {
-    // The status byte.
-    fn status(&self) -> u8
-        ensures { result ≡ status (record_of self.now) }
-    {
-        self.stored + 2 * self.latch as u8
-    }
-
-    // The first protected cell, by BP1 and BP0.
-    fn first_protected(&self) -> usize
-        ensures { result ≡ first_protected self.now.sheet (record_of self.now) }
-    {
-        let cells = self.sheet.cells();
-        match self.stored / 4 % 4 {
-            0 => cells,
-            1 => cells - cells / 4,
-            2 => cells / 2,
-            _ => 0,
-        }
-    }
-
-    // Whether WRITE may put a byte into this cell.
-    fn may_write(&self, place: u16) -> bool
-        ensures { result ≡ may_write self.now.sheet (record_of self.now) place }
-    {
-        self.latch && !(self.first_protected() <= usize::from(place))
-    }
-
-    // Whether WRSR may store at this level of WP.
-    fn may_store(&self, wp: bool) -> bool
-        ensures { result ≡ may_store wp (record_of self.now) }
-    {
-        self.latch && !(self.stored / 128 % 2 == 1 && !wp)
-    }
-
-    // The byte in a cell.
-    fn cell(&self, place: u16) -> u8
-        ensures { result ≡ slice_index self.now.memory.now place }
-    {
-        let place = usize::from(place);
-        if place < self.memory.len() {
-            self.memory[place]
-        } else {
-            0
-        }
-    }
-
-    // Puts a byte into a cell.
-    fn write_cell(&mut self, place: u16, byte: u8)
-        ensures rec { record_of self.new ≡ writing place byte (record_of self.old) }
+    // What the last bit of a session does in a chip that is awake: `taken` is what is kept with that bit, and `place` the
+    // cell of the data byte that it may complete.
+    fn obey(&mut self, wp: bool, taken: Registers, place: u16)
+        requires { self.old.status.asleep ≡ false }
+        ensures rec { record_of self.new ≡ effect self.old.sheet (command_at self.old.sheet taken.count taken.code)
+            wp (record_of self.old) taken.count place taken.shift }
         ensures same { SameButRecord self.old self.new }
     {
-        let place = usize::from(place);
-        if place < self.memory.len() {
-            self.memory[place] = byte;
-        }
-    }
-
-    // What bit n of a session does in a chip that is awake: the byte is that of the last eight bits, the place its cell.
-    fn obey(&mut self, command: Command, wp: bool, n: u8, place: u16, byte: u8)
-        requires { self.old.asleep ≡ false }
-        ensures rec { record_of self.new ≡ effect self.old.sheet command wp (record_of self.old) n place byte }
-        ensures same { SameButRecord self.old self.new }
-    {
-        match command {
-            Command::Wren if n == 8 => self.latch = true,
-            Command::Wrdi if n == 8 => self.latch = false,
-            Command::Wrsr if n == 16 && self.may_store(wp) => self.stored = byte - byte % 4,
-            Command::Write if completes(n) && self.may_write(place) => self.write_cell(place, byte),
+        let n = taken.count;
+        let byte = taken.shift;
+        match taken.command(self.sheet) {
+            Some(Command::Wren) if n == 8 => self.status.latch = true,
+            Some(Command::Wrdi) if n == 8 => self.status.latch = false,
+            Some(Command::Wrsr) if n == 16 && self.status.may_store(wp) => {
+                self.status.stored = byte - byte % 4
+            }
+            Some(Command::Write) if completes(n) && self.status.may_write(self.sheet, place) => {
+                write_cell(self.memory, place, byte)
+            }
             _ => {}
         }
     }
 
     // A rise takes the level of SI as the next bit; what is kept of the session then. A sleeping chip takes nothing.
-    pub(super) fn take(&mut self, session: Registers, si: bool, wp: bool) -> Registers
-        ensures kept { result ≡ (if self.old.asleep then session else taken self.old.sheet session si) }
-        ensures rec { record_of self.new ≡ (if self.old.asleep then record_of self.old else rise_kept self.old.sheet wp (record_of self.old) session si) }
+    pub(super) fn take(&mut self, kept: Registers, sample: Sample) -> Registers
+        ensures kept { result ≡ (if self.old.status.asleep then kept else taken self.old.sheet kept sample.si) }
+        ensures rec { record_of self.new ≡
+            (if self.old.status.asleep then record_of self.old else rise_kept self.old.sheet sample.wp (record_of self.old) kept sample.si) }
         ensures same { SameButRecord self.old self.new }
     {
-        if self.asleep {
-            return session;
+        if self.status.asleep {
+            return kept;
         }
-        let taken = session.taken(self.sheet, si);
-        let command = taken.command(self.sheet);
-        self.obey(command, wp, taken.count, session.place, taken.shift);
+        let taken = kept.taken(self.sheet, sample.si);
+        self.obey(sample.wp, taken, kept.place);
         taken
     }
 
     // What SO shows after a fall.
-    pub(super) fn show(&self, session: Registers) -> Level
-        ensures { result ≡ (if self.now.asleep then HighZ else fall_kept self.now.sheet (record_of self.now) session) }
+    pub(super) fn show(&self, kept: Registers) -> Level
+        ensures { result ≡ (if self.now.status.asleep then HighZ else fall_kept self.now.sheet (record_of self.now) kept) }
     {
-        let n = session.count;
-        match session.command(self.sheet) {
-            _ if self.asleep => Level::HighZ,
-            Command::Rdsr => bit_level(u32::from(self.status()), 7 - n.saturating_sub(8) % 8),
-            Command::Rdid => bit_level(self.sheet.identity(), 31 - n.saturating_sub(8).min(31)),
-            Command::Read if n >= 24 => bit_level(
-                u32::from(self.cell(session.place)),
-                7 - (n - 24) % 8,
-            ),
-            Command::Fstrd if n >= 32 => bit_level(
-                u32::from(self.cell(session.place)),
-                7 - (n - 32) % 8,
-            ),
-            _ => Level::HighZ,
-        }
-    }
-
-    // The end of a session. It wakes a sleeping chip, and does no more there.
-    pub(super) fn end(&mut self, session: Registers)
-        ensures rec { record_of self.new ≡ closed bounded self.old.sheet (record_of self.old) session }
-        ensures same { SameButRecord self.old self.new }
-    {
-        match session.command(self.sheet) {
-            _ if self.asleep => self.asleep = false,
-            Command::Wrsr | Command::Write if self.sheet.marks.drop => self.latch = false,
-            Command::Sleep if session.count == 8 => {
-                self.latch = false;
-                self.asleep = true;
+        let n = kept.count;
+        match kept.command(self.sheet) {
+            _ if self.status.asleep => Level::HighZ,
+            Some(Command::Rdsr) => {
+                bit_level(u32::from(self.status.byte()), 7 - n.saturating_sub(8) % 8)
             }
-            _ => {}
+            Some(Command::Rdid) => {
+                bit_level(self.sheet.identity(), 31 - n.saturating_sub(8).min(31))
+            }
+            Some(Command::Read) if n >= 24 => {
+                bit_level(u32::from(cell(self.memory, kept.place)), 7 - (n - 24) % 8)
+            }
+            Some(Command::Fstrd) if n >= 32 => {
+                bit_level(u32::from(cell(self.memory, kept.place)), 7 - (n - 32) % 8)
+            }
+            _ => Level::HighZ,
         }
     }
 }

@@ -1,115 +1,114 @@
 // A sample put to the pins.
-ghost use Rattle.std.specs.Prelude.{◌≡◌, ◌≤◌, cond};
+ghost use Rattle.std.specs.Prelude.{◌≡◌, ◌≤◌, length};
+ghost use Rattle.datasheet.specs.Sheets.{fits};
 ghost use Rattle.datasheet.specs.Chips.{whole, turn, judged, output};
 ghost use Rattle.datasheet.specs.Calls.{so, put, sampled, answered};
 ghost use Rattle.datasheet.specs.Kept.{bounded};
 ghost use Rattle.laws.specs.Laws.{Enough, StaysFitted};
-ghost use Rattle.chip.specs.Views.{chip_of, record_of, pins_of};
+ghost use Rattle.chip.specs.Views.{record_of, chip_of, pins_of};
 
 use super::Chip;
-use crate::selection::Selection;
+use crate::session::Session;
 use datasheet::{Level, Refusal, Registers, Sample};
 
 impl Chip<'_> {
     // The new sample, judged by the last one and the session together, in a fitted chip.
     fn judge(&mut self, sample: Sample)
-        ensures judged { turn (record_of self.new) (pins_of self.new.selection) ≡
-            judged bounded self.old.sheet (record_of self.old) (pins_of self.old.selection) sample }
+        ensures judged { turn (record_of self.new) (pins_of self.new.session) ≡
+            judged bounded self.old.sheet (record_of self.old) (pins_of self.old.session) sample }
         ensures sheet { self.new.sheet ≡ self.old.sheet }
-        ensures fitted { self.new.fitted ≡ self.old.fitted }
+        ensures cells { length self.new.memory.now ≡ length self.old.memory.now }
         ensures lent { self.new.memory.ghost_name ≡ self.old.memory.ghost_name }
     {
-        let (session, so) = match (self.selection, sample) {
+        let (kept, so) = match (self.session, sample) {
             // still deselected
-            (Selection::Deselected, Sample { cs: true, .. }) => return,
+            (None, Sample { cs: true, .. }) => return,
             // a session begins
-            (Selection::Deselected, _) => (Registers::cleared(), Level::HighZ),
+            (None, _) => (Registers::cleared(), Level::HighZ),
             // the session ends
-            (Selection::Selected { session, .. }, Sample { cs: true, .. }) => {
-                self.end(session);
-                self.selection = Selection::Deselected;
+            (Some(session), Sample { cs: true, .. }) => {
+                self.status.end(self.sheet, session.kept);
+                self.session = None;
                 return;
             }
             // a rise: SI is taken
             (
-                Selection::Selected {
-                    sck: false,
-                    hold: true,
-                    session,
-                    so,
-                },
+                Some(
+                    Session {
+                        sck: false,
+                        hold: true,
+                        kept,
+                        so,
+                    },
+                ),
                 Sample {
                     sck: true,
                     hold: true,
-                    si,
-                    wp,
                     ..
                 },
-            ) => (self.take(session, si, wp), so),
+            ) => (self.take(kept, sample), so),
             // a fall: SO is set
             (
-                Selection::Selected {
-                    sck: true,
-                    hold: true,
-                    session,
-                    ..
-                },
+                Some(
+                    Session {
+                        sck: true,
+                        hold: true,
+                        kept,
+                        ..
+                    },
+                ),
                 Sample {
                     sck: false,
                     hold: true,
                     ..
                 },
-            ) => (session, self.show(session)),
+            ) => (kept, self.show(kept)),
             // no edge counts
-            (Selection::Selected { session, so, .. }, _) => (session, so),
+            (Some(session), _) => (session.kept, session.so),
         };
         let Sample { sck, hold, .. } = sample;
-        self.selection = Selection::Selected {
+        self.session = Some(Session {
             sck,
             hold,
-            session,
+            kept,
             so,
-        };
+        });
+    }
+
+    // Whether the memory fits the sheet.
+    fn is_fitted(&self) -> bool
+        ensures { result ≡ fits self.now.sheet self.now.memory.now }
+    {
+        self.sheet.check_memory(self.memory).is_ok()
     }
 
     // SO, as far as it is driven.
     fn output(&self) -> Level
-        ensures { result ≡ output (pins_of self.now.selection) }
+        ensures { result ≡ output (pins_of self.now.session) }
     {
-        match self.selection {
-            Selection::Selected { hold: true, so, .. } => so,
+        match self.session {
+            Some(Session { hold: true, so, .. }) => so,
             _ => Level::HighZ,
         }
     }
 
     // The chip after a sample of these levels, and what SO shows then. A blank chip changes nothing, and its SO is high-Z.
-    fn respond(&mut self, sample: Sample) -> Level
+    fn put(&mut self, sample: Sample) -> Level
         ensures shows { result ≡ so (put bounded (chip_of self.old) sample) }
         ensures state { chip_of self.new ≡ put bounded (chip_of self.old) sample }
         ensures sheet { self.new.sheet ≡ self.old.sheet }
         ensures lent { self.new.memory.ghost_name ≡ self.old.memory.ghost_name }
     {
-        if !self.fitted {
+        if !self.is_fitted() {
             return Level::HighZ;
         }
         self.judge(sample);
         self.output()
     }
 
-    // The same, with the laws that hold of every chip, whatever is put to it.
-    fn put(&mut self, sample: Sample) -> Level
-        ensures shows { result ≡ so (put bounded (chip_of self.old) sample) }
-        ensures state { chip_of self.new ≡ put bounded (chip_of self.old) sample }
-        ensures sheet { self.new.sheet ≡ self.old.sheet }
-        ensures lent { self.new.memory.ghost_name ≡ self.old.memory.ghost_name }
-        ensures enough { Enough }
-        ensures stays { (StaysFitted whole) × (StaysFitted bounded) }
-    {
-        self.respond(sample)
-    }
-
     // Puts a sample to the pins, by its byte, and answers what SO shows then. A byte with a bit 5, 6 or 7 is refused and
     // leaves everything.
+    #[tactic(auto, using(crate::proofs::Laws::stays))]
     pub fn sample(&mut self, byte: u8) -> Result<Level, Refusal>
         ensures answer { result ≡ answered bounded (chip_of self.old) byte }
         ensures state { chip_of self.new ≡ sampled bounded (chip_of self.old) byte }
@@ -119,7 +118,7 @@ impl Chip<'_> {
         ensures enough { Enough }
         ensures stays { (StaysFitted whole) × (StaysFitted bounded) }
     {
-        let sample = Sample::from_byte(byte)?;
+        let sample = Sample::try_from(byte)?;
         Ok(self.put(sample))
     }
 }

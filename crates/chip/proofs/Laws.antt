@@ -1,0 +1,39 @@
+-- The laws of chips, as the contracts of the code name them.
+use Rattle.std.proofs.Common.{◌≡◌, ℕ, ◌<◌, Bool, Decides, length, sym, ap, true-eqb, slice_index}
+use Rattle.std.proofs.lemmas.Bool.Decides.{Decides-like}
+use Rattle.datasheet.specs.Sheets.{cells}
+use Rattle.datasheet.specs.Chips.{whole}
+use Rattle.datasheet.specs.Kept.{bounded}
+use Rattle.laws.specs.Laws.{Fitted, StaysFitted, Alike, ToldApart}
+use Rattle.laws.proofs.Apart.{told-apart, told-apart-whole}
+use Rattle.laws.proofs.Stays.{stays-fitted, stays-fitted-whole}
+use Rattle.chip.specs.declared.chip.Chip.{Chip}
+use Rattle.chip.specs.Views.{chip_of, record_of, pins_of, Resting}
+
+-- its cells are bytes
+abbrev Bytes : Chip → Type 0
+Bytes c = (i : ℕ) → slice_index c.memory.now i < 256
+
+-- a resting chip is fitted, by what its type says
+fitted : (c : Chip) → Bytes c → Resting c → Fitted (chip_of c)
+fitted c b h =
+    record {
+      fit = h.0;
+      size = true-eqb (length c.memory.now) (cells c.sheet) (sym h.0);
+      bytes = b;
+      stored-byte = c.status.byte;
+      stored-high = c.status.high;
+      still = c.status.still;
+    }
+
+pub told : (a b : Chip) (r : Bool) → Bytes a → Bytes b → Decides r (record_of a ≡ record_of b) →
+    Resting a → Resting b → a.sheet ≡ b.sheet → Decides r (Alike bounded (chip_of a) (chip_of b))
+told a b r ba bb d ha hb e =
+    let t = told-apart (chip_of a) (chip_of b) (fitted a ba ha) (fitted b bb hb) (ap pins_of ha.1) (ap pins_of hb.1) e in
+    Decides-like r t.0 t.1 d
+
+pub apart : (ToldApart whole) × (ToldApart bounded)
+apart = (told-apart-whole, told-apart)
+
+pub stays : (StaysFitted whole) × (StaysFitted bounded)
+stays = (stays-fitted-whole, stays-fitted)
