@@ -1,156 +1,112 @@
 -- Images by their bytes and their fences, front by front.
-use Rattle.std.proofs.Common.{◌≡◌, ℕ, suc, ◌+◌, ◌-◌, ◌<◌, ◌≤◌, true, false, List, [], ◌∷◌, map, length, take, drop, Some, None, Ok, Option, Result, sym, refl, ap, ◌∙◌, ⊎_elim, arith, take-add}
-use Rattle.std.proofs.lemmas.Bool.{cases_Bool, le-leb}
-use Rattle.std.proofs.lemmas.List.{take-map, drop-map, take_all, take-take, length-drop, length-take, length-map}
+use Rattle.std.proofs.Common.{◌≡◌, ℕ, Bool, cond, replicate, ◌++◌, suc, ◌+◌, ◌-◌, ◌<◌, ◌≤◌, true, false, List, [], ◌∷◌, map, length, take, drop, Some, None, Ok, Option, sym, refl, ap, ◌∙◌, min, arith, take-add}
+use Rattle.std.proofs.lemmas.Bool.{le-leb}
+use Rattle.std.proofs.lemmas.List.{take-map, drop-map, take_all, take_min, take_rest, take-append-drop, length-drop, length-map}
 use Rattle.image.specs.declared.Cell.{Cell}
 use Rattle.image.specs.Images.{Image, part, bytes_of, first_fenced, fence_in}
 use Rattle.image.specs.Results.{fence_result, read_into}
-use Rattle.datasheet.specs.declared.refusal.Refusal.{Refusal}
 use Rattle.image.proofs.Told.{same-cell}
 use Rattle.equality.specs.Sides.{fences_of}
 
--- the fence question tells no more than the fences
-pub fence-by : (at : ℕ) (cs ds : List Cell) → fences_of cs ≡ fences_of ds → first_fenced at cs ≡ first_fenced at ds
-fence-by at [] [] e = refl
-fence-by at [] (d ∷ ds) e = cc
-fence-by at (c ∷ cs) [] e = cc
-fence-by at (c ∷ cs) (d ∷ ds) e =
-    let f : c.fenced ≡ d.fenced = cc in
-    let r : fences_of cs ≡ fences_of ds = cc in
-    rw (f, fence-by (at + 1) cs ds r)
+-- the place of the first fence, by the fences alone, where the first of them stands at this place
+abbrev first-true : ℕ → List Bool → Option ℕ
+first-true at [] = None
+first-true at (b ∷ bs) = cond b (Some at) (first-true (at + 1) bs)
 
--- where the fence lies
-pub fence-within : (at : ℕ) (cs : List Cell) (f : ℕ) → first_fenced at cs ≡ Some f → (at ≤ f) × (f < at + length cs)
-fence-within at [] f e = let z : ◌≡◌ {A = ℕ} 0 1 = cc in absurd (omega arith)
-fence-within at (c ∷ cs) f e = ⊎_elim
-    (λ t. let z : at ≡ f = let w : Some at ≡ Some f = rw t at e in cc in (omega arith, omega arith))
-    (λ t. let w : first_fenced (at + 1) cs ≡ Some f = rw t at e in
-    let h = fence-within (at + 1) cs f w in (omega (arith, h.0), omega (arith, h.1)))
-    (cases_Bool c.fenced)
+by-fences : (at : ℕ) (cs : List Cell) → first_fenced at cs ≡ first-true at (fences_of cs)
+by-fences at [] = refl
+by-fences at (c ∷ cs) = rw (by-fences (at + 1) cs)
 
--- the same answer, of lists of one length: none
-pub none-same : (at : ℕ) (cs ds : List Cell) → length cs ≡ length ds → first_fenced at cs ≡ None → first_fenced at ds ≡ None → fences_of cs ≡ fences_of ds
-none-same at [] [] l e f = refl
-none-same at [] (d ∷ ds) l e f = absurd (omega arith)
-none-same at (c ∷ cs) [] l e f = absurd (omega arith)
-none-same at (c ∷ cs) (d ∷ ds) l e f = ⊎_elim
-    (λ t. let w : Some at ≡ None = rw t at e in cc)
-    (λ t. ⊎_elim
-    (λ u. let w : Some at ≡ None = rw u at f in cc)
-    (λ u. let same = none-same (at + 1) cs ds (omega arith) (rw t at e) (rw u at f) in cc)
-    (cases_Bool d.fenced))
-    (cases_Bool c.fenced)
+-- the fences up to the first, and the fences where there is none
+up-to : (at : ℕ) (bs : List Bool) (f : ℕ) → first-true at bs ≡ Some f → (at ≤ f) × (f < at + length bs) × (take (suc (f - at)) bs ≡ replicate (f - at) false ++ true ∷ [])
+up-to at [] f e = let z : ◌≡◌ {A = ℕ} 0 1 = cc in absurd (omega arith)
+up-to at (true ∷ bs) f e =
+    let z : at ≡ f = cc in
+    let n : f - at ≡ 0 = omega arith in
+    (omega arith, omega arith, rw n)
+up-to at (false ∷ bs) f e =
+    let h = up-to (at + 1) bs f e in
+    let n : f - at ≡ suc (f - (at + 1)) = omega (arith, h.0) in
+    (omega (arith, h.0), omega (arith, h.1), rw n (ap (λ r. false ∷ r) h.2))
 
--- the same place: the same fences up to it
-pub some_same : (at : ℕ) (cs ds : List Cell) (f : ℕ) → first_fenced at cs ≡ Some f → first_fenced at ds ≡ Some f →
-    take (f + 1 - at) (fences_of cs) ≡ take (f + 1 - at) (fences_of ds)
-some_same at [] ds f e g = cc
-some_same at (c ∷ cs) [] f e g = cc
-some_same at (c ∷ cs) (d ∷ ds) f e g = ⊎_elim
-    (λ (t : c.fenced ≡ true). let z : at ≡ f = let w : Some at ≡ Some f = rw t at e in cc in
-    let n : f + 1 - at ≡ 1 = omega arith in
-    ⊎_elim
-    (λ (u : d.fenced ≡ true). rw n (ap (λ b. b ∷ []) (t ∙ sym u)))
-    (λ (u : d.fenced ≡ false). let h = fence-within (at + 1) ds f (rw u at g) in absurd (omega (arith, h.0)))
-    (cases_Bool d.fenced))
-    (λ (t : c.fenced ≡ false). let h = fence-within (at + 1) cs f (rw t at e) in
-    let n : f + 1 - at ≡ suc (f + 1 - (at + 1)) = omega (arith, h.0) in
-    ⊎_elim
-    (λ (u : d.fenced ≡ true). let z : at ≡ f = let w : Some at ≡ Some f = rw u at g in cc in absurd (omega (arith, h.0)))
-    (λ (u : d.fenced ≡ false). let r = some_same (at + 1) cs ds f (rw t at e) (rw u at g) in
-    let s : c.fenced ≡ d.fenced = t ∙ sym u in
-    rw n (ap (λ b. b ∷ take (f + 1 - (at + 1)) (fences_of cs)) s ∙ ap (λ r. d.fenced ∷ r) r))
-    (cases_Bool d.fenced))
-    (cases_Bool c.fenced)
+none-at : (at : ℕ) (bs : List Bool) → first-true at bs ≡ None → bs ≡ replicate (length bs) false
+none-at at [] e = refl
+none-at at (true ∷ bs) e = cc
+none-at at (false ∷ bs) e = ap (λ r. false ∷ r) (none-at (at + 1) bs e)
 
 -- both sides the same: the same image
-pub sides-same : (i j : Image) → fences_of i ≡ fences_of j → bytes_of i ≡ bytes_of j → i ≡ j
-sides-same [] [] e f = refl
-sides-same [] (d ∷ ds) e f = cc
-sides-same (c ∷ cs) [] e f = cc
-sides-same (c ∷ cs) (d ∷ ds) e f =
-    let h : c.fenced ≡ d.fenced = cc in
-    let b : c.byte ≡ d.byte = cc in
-    let r = sides-same cs ds (cc) (cc) in
-    let s = same-cell c d b h in
+pub sides_same : (i j : Image) → fences_of i ≡ fences_of j → bytes_of i ≡ bytes_of j → i ≡ j
+sides_same [] [] e f = refl
+sides_same [] (d ∷ ds) e f = cc
+sides_same (c ∷ cs) [] e f = cc
+sides_same (c ∷ cs) (d ∷ ds) e f = cc (sides_same cs ds (cc) (cc), same-cell c d (cc) (cc))
+
+-- a part, by what is looked at of a cell, and a front that is the whole
+part-is : {X : Type 0} (f : Cell → X) (i : Image) (start count : ℕ) → map f (part i start count) ≡ take count (drop start (map f i))
+part-is f i start count = sym (take-map f count (drop start i)) ∙ ap (take count) (sym (drop-map f start i))
+
+all-of : {X : Type 0} (f : Cell → X) (i : Image) (k : ℕ) → length i ≤ k → take k (map f i) ≡ map f i
+all-of f i k h = take_all k (map f i) (simp length-map (omega arith))
+
+-- the bytes of a chunk; one chunk more, and the last
+pub chunk_bytes : (i : Image) (start count : ℕ) → bytes_of (part i start count) ≡ take count (drop start (bytes_of i))
+chunk_bytes = part-is (λ c. c.byte)
+
+module _ (i j : Image) (start count : ℕ) (before : take start (bytes_of i) ≡ take start (bytes_of j)) (here : bytes_of (part i start count) ≡ bytes_of (part j start count)) where
+  pub chunk_more : take (start + count) (bytes_of i) ≡ take (start + count) (bytes_of j)
+  chunk_more =
+      cc (chunk_bytes i start count, chunk_bytes j start count, take-add start count (bytes_of i), take-add start count (bytes_of j))
+
+  pub chunk_last : length i ≤ start + count → length j ≤ start + count → bytes_of i ≡ bytes_of j
+  chunk_last h l = cc (chunk_more, all-of (λ c. c.byte) i (start + count) h, all-of (λ c. c.byte) j (start + count) l)
+
+-- the answer of a fence question that was not refused
+pub asked : (i : Image) (start n : ℕ) (o : Option ℕ) → fence_result i start n ≡ Ok o → start + n ≤ length i → o ≡ fence_in i start n
+asked i start n o told h =
+    let e : fence_result i start n ≡ Ok (fence_in i start n) = rw (le-leb (start + n) (length i) h) in
     cc
 
--- one part more, and every part; `f` is what is looked at of a cell
-module _ {X : Type 0} (f : Cell → X) where
-  pub part-more : (i j u v : Image) (start count : ℕ) → u ≡ i → v ≡ j → take start (map f i) ≡ take start (map f j) → map f (part u start count) ≡ map f (part v start count) →
-      take (start + count) (map f i) ≡ take (start + count) (map f j)
-  part-more i j u v start count ui vj before here =
-      let m : (w : Image) → map f (part w start count) ≡ take count (drop start (map f w)) =
-      λ w. sym (take-map f count (drop start w)) ∙ ap (take count) (sym (drop-map f start w)) in
-      let e : take count (drop start (map f i)) ≡ take count (drop start (map f j)) =
-      let a = m u in let b = m v in cc in
-      let a = take-add start count (map f i) in
-      let b = take-add start count (map f j) in
-      cc
+-- the first fence from `start` on, by the fences alone
+ahead : (i : Image) (start : ℕ) → fence_in i start (length i - start) ≡ first-true start (drop start (fences_of i))
+ahead i start =
+    by-fences start (part i start (length i - start)) ∙ ap (λ (cs : List Cell). first-true start (fences_of cs)) (take_rest i start) ∙ ap (first-true start) (sym (drop-map (λ c. c.fenced) start i))
 
-  pub parts_all : (i j : Image) (k : ℕ) → length i ≤ k → length j ≤ k → take k (map f i) ≡ take k (map f j) → map f i ≡ map f j
-  parts_all i j k h l e =
-      sym (take_all k (map f i) (simp length-map (omega arith))) ∙ e ∙ take_all k (map f j) (simp length-map (omega arith))
+-- what it tells of two boards of one size whose fences are the same up to `start`
+module _ (i j : Image) (start size : ℕ) (long : length i ≡ size) (wide : length j ≡ size) (h : start ≤ size) where
+  -- a fence lies ahead
+  pub hop_within : (f : ℕ) → Some f ≡ fence_in i start (size - start) → (start ≤ f) × (f < size)
+  hop_within f e =
+      let u = up-to start (drop start (fences_of i)) f (cc (ahead i start)) in
+      let l : length (drop start (fences_of i)) ≡ size - start = simp (length-drop, length-map) (omega arith) in
+      (u.0, omega (arith, u.1))
 
-  pub part_same : (i j u v : Image) (start count : ℕ) → u ≡ i → v ≡ j → map f i ≡ map f j → map f (part u start count) ≡ map f (part v start count)
-  part_same i j u v start count ui vj e =
-      let m : (w : Image) → map f (part w start count) ≡ take count (drop start (map f w)) =
-      λ w. sym (take-map f count (drop start w)) ∙ ap (take count) (sym (drop-map f start w)) in
-      let a = m u in let b = m v in cc
-
--- what the fence question returned, where it was not refused
-pub fence-is : (i : Image) (start n : ℕ) (r : Result (Option ℕ) Refusal) (o : Option ℕ) → r ≡ fence_result i start n → r ≡ Ok o → start + n ≤ length i → fence_in i start n ≡ o
-fence-is i start n r o told ok h =
-    let e : r ≡ Ok (fence_in i start n) = told ∙ rw (le-leb (start + n) (length i) h) in
-    let z : ◌≡◌ {A = Result (Option ℕ) Refusal} (Ok o) (Ok (fence_in i start n)) = sym ok ∙ e in
-    cc
-
-fences-part : (i : Image) (start n : ℕ) → fences_of (part i start n) ≡ take n (drop start (fences_of i))
-fences-part i start n = sym (take-map (λ (c : Cell). c.fenced) n (drop start i)) ∙ ap (take n) (sym (drop-map (λ (c : Cell). c.fenced) start i))
-
-module _ (i j : Image) (start size : ℕ) (long : length i ≡ size) (wide : length j ≡ size) (h : start < size) where
-  -- a fence at the same place: it lies ahead, and the fences are the same past it
-  pub hop-within : (f : ℕ) → fence_in i start (size - start) ≡ Some f → (start ≤ f) × (f < size)
-  hop-within f e =
-      let w = fence-within start (part i start (size - start)) f e in
-      let l : length (part i start (size - start)) ≡ size - start = simp (length-take, length-drop) (omega arith) in
-      (w.0, omega (arith, w.1, l))
-
-  pub hop : (f : ℕ) → take start (fences_of i) ≡ take start (fences_of j) → fence_in i start (size - start) ≡ Some f → fence_in j start (size - start) ≡ Some f →
+  -- a fence at the same place: the fences are the same past it
+  pub hop : (f : ℕ) → take start (fences_of i) ≡ take start (fences_of j) → Some f ≡ fence_in i start (size - start) → Some f ≡ fence_in j start (size - start) →
       take (f + 1) (fences_of i) ≡ take (f + 1) (fences_of j)
   hop f before e g =
-      let n = size - start in
-      let m = f + 1 - start in
-      let w = hop-within f e in
-      let short : m ≤ n = omega (arith, w.0, w.1) in
-      let there : start + m ≡ f + 1 = omega (arith, w.0) in
-      let s : take m (take n (drop start (fences_of i))) ≡ take m (take n (drop start (fences_of j))) =
-      ap (take m) (sym (fences-part i start n)) ∙ some_same start (part i start n) (part j start n) f e g ∙ ap (take m) (fences-part j start n) in
-      let t : take m (drop start (fences_of i)) ≡ take m (drop start (fences_of j)) =
-      sym (take-take m n (drop start (fences_of i)) short) ∙ s ∙ take-take m n (drop start (fences_of j)) short in
-      let a = take-add start m (fences_of i) in
-      let b = take-add start m (fences_of j) in
-      cc
+      let u = up-to start (drop start (fences_of i)) f (cc (ahead i start)) in
+      let v = up-to start (drop start (fences_of j)) f (cc (ahead j start)) in
+      let n : start + suc (f - start) ≡ f + 1 = omega (arith, u.0) in
+      cc (u.2, v.2, take-add start (suc (f - start)) (fences_of i), take-add start (suc (f - start)) (fences_of j))
 
   -- no fence ahead: the fences are the same
-  pub hop-none : take start (fences_of i) ≡ take start (fences_of j) → fence_in i start (size - start) ≡ None → fence_in j start (size - start) ≡ None → fences_of i ≡ fences_of j
-  hop-none before e g =
-      let n = size - start in
-      let l : length (part i start n) ≡ length (part j start n) = simp (length-take, length-drop) (omega arith) in
-      let s : take n (drop start (fences_of i)) ≡ take n (drop start (fences_of j)) =
-      sym (fences-part i start n) ∙ none-same start (part i start n) (part j start n) l e g ∙ fences-part j start n in
-      let there : start + n ≡ size = omega arith in
-      let a = take-add start n (fences_of i) in
-      let b = take-add start n (fences_of j) in
-      let t : take size (fences_of i) ≡ take size (fences_of j) = cc in
-      parts_all (λ (c : Cell). c.fenced) i j size (omega arith) (omega arith) t
+  pub hop_none : take start (fences_of i) ≡ take start (fences_of j) → None ≡ fence_in i start (size - start) → None ≡ fence_in j start (size - start) → fences_of i ≡ fences_of j
+  hop_none before e g =
+      let u = none-at start (drop start (fences_of i)) (cc (ahead i start)) in
+      let v = none-at start (drop start (fences_of j)) (cc (ahead j start)) in
+      let l : length (drop start (fences_of i)) ≡ length (drop start (fences_of j)) = simp (length-drop, length-map) (omega arith) in
+      cc (u, v, take-append-drop start (fences_of i), take-append-drop start (fences_of j))
 
-  -- other answers: other fences
-  pub hop-differs : fences_of i ≡ fences_of j → fence_in i start (size - start) ≡ fence_in j start (size - start)
-  hop-differs e =
-      let n = size - start in
-      fence-by start (part i start n) (part j start n) (fences-part i start n ∙ ap (λ s. take n (drop start s)) e ∙ sym (fences-part j start n))
+  -- the same fences: the same first one
+  pub hop_same : fences_of i ≡ fences_of j → fence_in i start (size - start) ≡ fence_in j start (size - start)
+  hop_same e = cc (ahead i start, ahead j start)
 
--- what a read left, where the range lies inside
-pub chunk-is : (i : Image) (start : ℕ) (buffer out : List ℕ) → out ≡ read_into i start buffer → start + length buffer ≤ length i → out ≡ bytes_of (part i start (length buffer))
-chunk-is i start buffer out told h = told ∙ rw (le-leb (start + length buffer) (length i) h)
+pub ruleset hops = (asked, hop, hop_within, hop_none, hop_same)
+
+-- what a read of a chunk left: the image from `start` on, as far as `reach`
+pub chunk-is : (i : Image) (start reach : ℕ) (buffer out : List ℕ) → out ≡ read_into i start buffer → length buffer ≡ min reach (length i - start) → start ≤ length i →
+    out ≡ bytes_of (part i start reach)
+chunk-is i start reach buffer out told l h =
+    let e : out ≡ bytes_of (part i start (length buffer)) = told ∙ rw (le-leb (start + length buffer) (length i) (omega (arith, l))) in
+    let n : length buffer ≡ min reach (length (drop start i)) = l ∙ ap (min reach) (sym (length-drop start i)) in
+    e ∙ ap bytes_of (ap (λ (m : ℕ). take m (drop start i)) n ∙ take_min reach (drop start i))

@@ -1,2 +1,4 @@
 pub mod Sides
+pub mod Fences
+pub mod Pairs
 pub mod Law

@@ -1,93 +1,127 @@
 // Two boards compared by few calls: the fences from one to the next, the bytes in chunks.
-ghost use Rattle.std.specs.Prelude.{◌≡◌, ◌+◌, ◌≤◌, List, length, Decides};
+ghost use Rattle.std.specs.Prelude.{◌≡◌, ◌≤◌, length, Decides};
 ghost use Rattle.image.specs.Images.{bytes_of, part};
-ghost use Rattle.equality.specs.Sides.{fences_of};
+ghost use Rattle.equality.specs.Sides.{fences_of, Kept};
 
 use board::Board;
 
 // How many bytes are read at once.
 const CHUNK: usize = 32;
 
-// Whether two boards of this size have the same fences.
-fn same_fences<P: Board, Q: Board>(p: &mut P, q: &mut Q, size: usize) -> bool
-    requires first { length (P.Board.image p.old) ≡ size }
-    requires second { length (Q.Board.image q.old) ≡ size }
-    ensures exact { Decides result (fences_of (P.Board.image p.old) ≡ fences_of (Q.Board.image q.old)) }
-    ensures left { P.Board.image p.new ≡ P.Board.image p.old }
-    ensures right { Q.Board.image q.new ≡ Q.Board.image q.old }
-    ensures lent_left { P.Board.lent p.new ≡ P.Board.lent p.old }
-    ensures lent_right { Q.Board.lent q.new ≡ Q.Board.lent q.old }
-{
-    let mut start = 0;
-    while start < size {
-        let fence = p.first_fence(start, size - start).unwrap();
-        if q.first_fence(start, size - start).unwrap() != fence {
-            return false;
-        }
-        match fence {
-            Some(place) => start = place + 1,
-            None => return true,
-        }
-    }
-    true
-}
-
-// Whether two boards have the same bytes from `start` on, as many as `a` and `b` have room for.
-fn same_chunk<P: Board, Q: Board>(
-    p: &mut P,
-    q: &mut Q,
+// The fenced places of a board from `start` on, in order.
+#[derive(Drop)]
+struct Fences<B: Board> {
+    board: B,
     start: usize,
-    a: &mut [u8],
-    b: &mut [u8],
-) -> bool
-    requires paired { length a.old ≡ length b.old }
-    requires first { start + length a.old ≤ length (P.Board.image p.old) }
-    requires second { start + length b.old ≤ length (Q.Board.image q.old) }
-    ensures exact { Decides result (bytes_of (part (P.Board.image p.old) start (length a.old)) ≡ bytes_of (part (Q.Board.image q.old) start (length a.old))) }
-    ensures left { P.Board.image p.new ≡ P.Board.image p.old }
-    ensures right { Q.Board.image q.new ≡ Q.Board.image q.old }
-    ensures lent_left { P.Board.lent p.new ≡ P.Board.lent p.old }
-    ensures lent_right { Q.Board.lent q.new ≡ Q.Board.lent q.old }
-{
-    let _ = p.read(start, a);
-    let _ = q.read(start, b);
-    *a == *b
+    size: usize,
+    ghost sized: { length (B.Board.image board) ≡ size },
+    ghost inside: { start ≤ size },
 }
 
-// Whether two boards of this size have the same bytes.
-fn same_bytes<P: Board, Q: Board>(p: &mut P, q: &mut Q, size: usize) -> bool
-    requires first { length (P.Board.image p.old) ≡ size }
-    requires second { length (Q.Board.image q.old) ≡ size }
-    ensures exact { Decides result (bytes_of (P.Board.image p.old) ≡ bytes_of (Q.Board.image q.old)) }
-    ensures left { P.Board.image p.new ≡ P.Board.image p.old }
-    ensures right { Q.Board.image q.new ≡ Q.Board.image q.old }
-    ensures lent_left { P.Board.lent p.new ≡ P.Board.lent p.old }
-    ensures lent_right { Q.Board.lent q.new ≡ Q.Board.lent q.old }
-{
-    let mut a = [0; CHUNK];
-    let mut b = [0; CHUNK];
-    let mut start = 0;
-    while start < size {
-        let count = CHUNK.min(size - start);
-        if !same_chunk(p, q, start, &mut a[..count], &mut b[..count]) {
-            return false;
+impl<B: Board> Fences<B> {
+    // The fences of a board of this size.
+    fn of(board: B, size: usize) -> Self
+        requires sized { length (B.Board.image board) ≡ size }
+        ensures board { result.board ≡ board }
+        ensures size { result.size ≡ size }
+        ensures start { result.start ≡ 0 }
+    {
+        Fences {
+            board,
+            start: 0,
+            size,
         }
-        start += count;
     }
-    true
+}
+
+impl<B: Board + Drop> Iterator for Fences<B> {
+    ghost use Rattle.std.specs.Prelude.{◌-◌};
+    ghost use Rattle.std.specs.Iterator.{at_most};
+    ghost use Rattle.equality.specs.Fences.{NextFence};
+
+    type Item = usize;
+
+    ghost remaining = { λ s. at_most (s.size - s.start) };
+
+    ghost next_gives = { NextFence };
+
+    #[tactic(auto, using(crate::proofs::Sides::hops))]
+    fn next(&mut self) -> Option<usize> {
+        let count = self.size - self.start;
+        let place = self.board.first_fence(self.start, count).unwrap()?;
+        self.start = place + 1;
+        Some(place)
+    }
+}
+
+// Two boards of one size.
+#[derive(Drop)]
+struct Pair<P: Board, Q: Board> {
+    left: P,
+    right: Q,
+    size: usize,
+    ghost left_sized: { length (P.Board.image left) ≡ size },
+    ghost right_sized: { length (Q.Board.image right) ≡ size },
+}
+
+impl<P: Board, Q: Board> Pair<P, Q> {
+    ghost use Rattle.equality.specs.Pairs.{Untouched};
+
+    // Whether the boards have the same fences.
+    #[tactic(auto, using(crate::proofs::Sides::hops))]
+    fn same_fences(&mut self) -> bool
+        ensures exact { Decides result (fences_of (P.Board.image self.old.left) ≡ fences_of (Q.Board.image self.old.right)) }
+        ensures kept { Untouched self.old self.new }
+    {
+        // `Iterator::eq` does not say how it leaves the boards that its iterators hold, so the fences are compared in a loop.
+        let mut right = Fences::of(&mut self.right, self.size);
+        for place in Fences::of(&mut self.left, self.size) {
+            if right.next() != Some(place) {
+                return false;
+            }
+        }
+        right.next().is_none()
+    }
+
+    // Whether the boards have the same bytes from `start` on, as far as a chunk reaches.
+    fn same_chunk(&mut self, start: usize) -> bool
+        requires inside { start ≤ self.old.size }
+        ensures exact { Decides result (bytes_of (part (P.Board.image self.old.left) start CHUNK) ≡ bytes_of (part (Q.Board.image self.old.right) start CHUNK)) }
+        ensures kept { Untouched self.old self.new }
+    {
+        let count = CHUNK.min(self.size - start);
+        let left = &mut [0; CHUNK][..count];
+        let right = &mut [0; CHUNK][..count];
+        let _ = self.left.read(start, left);
+        let _ = self.right.read(start, right);
+        *left == *right
+    }
+
+    // Whether the boards have the same bytes.
+    fn same_bytes(&mut self) -> bool
+        ensures exact { Decides result (bytes_of (P.Board.image self.old.left) ≡ bytes_of (Q.Board.image self.old.right)) }
+        ensures kept { Untouched self.old self.new }
+    {
+        for start in (0..self.size).step_by(CHUNK) {
+            if !self.same_chunk(start) {
+                return false;
+            }
+        }
+        true
+    }
 }
 
 // Whether two boards have the same image, found out by calls alone.
-pub(crate) fn same_image<P: Board, Q: Board>(p: &mut P, q: &mut Q) -> bool
-    ensures exact { Decides result (P.Board.image p.old ≡ Q.Board.image q.old) }
-    ensures left { P.Board.image p.new ≡ P.Board.image p.old }
-    ensures right { Q.Board.image q.new ≡ Q.Board.image q.old }
-    ensures lent_left { P.Board.lent p.new ≡ P.Board.lent p.old }
-    ensures lent_right { Q.Board.lent q.new ≡ Q.Board.lent q.old }
+#[tactic(auto, using(crate::proofs::Sides::sides_same))]
+pub(crate) fn same_image<P: Board, Q: Board>(left: &mut P, right: &mut Q) -> bool
+    ensures exact { Decides result (P.Board.image left.old ≡ Q.Board.image right.old) }
+    ensures left { Kept P.Board left.old left.new }
+    ensures right { Kept Q.Board right.old right.new }
 {
-    let size = p.size();
-    if q.size() != size {
+    let size = left.size();
+    if right.size() != size {
         return false;
     }
-    same_fences(p, q, size) && same_bytes(p, q, size)
+    let mut pair = Pair { left, right, size };
+    pair.same_fences() && pair.same_bytes()
 }

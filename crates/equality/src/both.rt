@@ -16,19 +16,6 @@ pub struct Same {
     pub boards: bool,
 }
 
-// Whether two boards have the same image: this is whether no list of calls tells them apart.
-fn same_boards<P: Board, Q: Board>(left: &mut P, right: &mut Q) -> bool
-    ensures exact { Decides result (P.Board.image left.old ≡ Q.Board.image right.old) }
-    ensures untold { Decides result (Alike (P.Board.image left.old) (Q.Board.image right.old)) }
-    ensures left { P.Board.image left.new ≡ P.Board.image left.old }
-    ensures right { Q.Board.image right.new ≡ Q.Board.image right.old }
-    ensures lent_left { P.Board.lent left.new ≡ P.Board.lent left.old }
-    ensures lent_right { Q.Board.lent right.new ≡ Q.Board.lent right.old }
-    ensures law { Equality }
-{
-    same_image(left, right)
-}
-
 // Compares two chips and two boards, the boards by calls alone, and leaves all four as they were. Two resting chips of one
 // sheet are the same exactly when no list of samples and power cycles tells them apart, and two boards of any build exactly
 // when no list of size, fence question, read and write does.
@@ -50,6 +37,6 @@ pub fn compare<P: Board, Q: Board>(
     ensures law { Equality }
 {
     let chips = first.same_record(second);
-    let boards = same_boards(left, right);
+    let boards = same_image(left, right);
     Same { chips, boards }
 }
