@@ -3,7 +3,7 @@
 // the place of the kind byte in two bytes.
 #![tactic(auto)]
 
-ghost use Rattle.std.specs.Prelude.{◌≡◌, ◌≤◌, length, IfOk};
+ghost use Rattle.std.specs.Prelude.{◌≡◌};
 ghost use Rattle.chip_script.specs.Faults.{fault_bytes};
 
 use chip::ParkedChip;
@@ -12,48 +12,32 @@ use script::{Counts, chip_visit};
 use std::io;
 use std::io::{Read, Write};
 
+// The bytes of a script that are taken.
 const MOST: usize = 4096;
 
+// The cells of an MB85RS64VY.
 const CELLS: usize = 8192;
-
-// Fills `buffer` from the front until it is full or the input ends.
-fn read_up_to<R: Read>(input: &mut R, buffer: &mut [u8]) -> io::Result<usize>
-    ensures { IfOk result (λ n. n ≤ length buffer.old) }
-{
-    let mut filled = 0;
-    while filled < buffer.len() {
-        let n = input.read(&mut buffer[filled..])?;
-        if n == 0 {
-            break;
-        }
-        filled += n;
-    }
-    Ok(filled)
-}
 
 // What is written of a script with a fault.
 fn fault_bytes(refusal: Refusal) -> [u8; 4]
     ensures { result ≡ fault_bytes refusal }
 {
     let place = refusal.place().unwrap_or(0);
-    [
-        0x7E,
-        u8::from(refusal),
-        (place / 256 % 256) as u8,
-        (place % 256) as u8,
-    ]
+    let [.., high, low] = place.to_be_bytes();
+    [0x7E, u8::from(refusal), high, low]
 }
 
 fn main(rt: HostRuntime) -> io::Result<()> {
-    let mut script = [0u8; MOST];
+    let mut script = Vec::new(rt.alloc());
+    rt.stdin().take(MOST as u64).read_to_end(&mut script)?;
+    // nine bytes for each step, and a step has one byte at least
     let mut answers = [0u8; 9 * MOST];
     let mut memory = [0u8; CELLS];
-    let n = read_up_to(&mut rt.stdin(), &mut script)?;
     let parked = ParkedChip::new(Sheet::of(Part::Mb85rs64vy, 0x00, 0x02), 0);
-    let (result, parked) = chip_visit(parked, &mut memory, &script[0..n], &mut answers);
+    let (result, parked) = chip_visit(parked, &mut memory, &script, &mut answers);
     let _ = parked.into_parts();
     match result {
-        Ok(Counts { bytes, .. }) => rt.stdout().write_all(&answers[0..bytes]),
+        Ok(Counts { bytes, .. }) => rt.stdout().write_all(&answers[..bytes]),
         Err(refusal) => rt.stdout().write_all(&fault_bytes(refusal)),
     }
 }

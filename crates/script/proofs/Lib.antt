@@ -1,6 +1,4 @@
-pub mod Parse
-pub mod Sofar
-pub mod Faults
+pub mod Ahead
+pub mod Exact
 pub mod Going
 pub mod Whole
-pub mod Exact

@@ -1,9 +1,10 @@
 -- The run of a chip that keeps no more of a session than it needs is the run by the rules over the full list of bits.
-use Rattle.std.proofs.Common.{◌≡◌, ℕ, ◌*◌, Bool, true, false, cond, leb, List, length, refl, ap₂}
+use Rattle.std.proofs.Common.{◌≡◌, ℕ, ◌*◌, Bool, true, false, cond, leb, List, length, refl, ap, ap₂, ◌∙◌}
 use Rattle.datasheet.specs.declared.registers.Registers.{Registers}
+use Rattle.datasheet.specs.declared.sheet.Sheet.{Sheet}
 use Rattle.datasheet.specs.declared.refusal.Refusal.TheVariants.{ShortBuffer}
 use Rattle.datasheet.specs.Chips.{whole}
-use Rattle.datasheet.specs.Calls.{Chip, Call, Answer, answers}
+use Rattle.datasheet.specs.Calls.{Chip, Call, Answer, answers, powered}
 use Rattle.datasheet.specs.Kept.{bounded, kept_chip}
 use Rattle.laws.proofs.Follow.{enough}
 use Rattle.script.specs.Steps.{chip_step}
@@ -36,3 +37,9 @@ same_outcome c script buffer = go (read_script chip_step script)
     go : (k : Reading Call) → outcome_of bounded k (kept_chip c) buffer ≡ kept_outcome (outcome_of whole k c buffer)
     go (stops e) = refl
     go (reads calls) = same-playing c calls buffer (leb (9 * length calls) (length buffer))
+
+-- the same of a run that begins at power on
+pub from_power : {c : Chip Registers} {s : Sheet} {memory : List ℕ} {stored : ℕ} (script buffer : List ℕ) → c ≡ powered s memory stored →
+    outcome bounded c script buffer ≡ kept_outcome (outcome whole (powered s memory stored) script buffer)
+from_power {s = s} {memory = memory} {stored = stored} script buffer begun =
+    ap (λ (x : Chip Registers). outcome bounded x script buffer) begun ∙ same_outcome (powered s memory stored) script buffer

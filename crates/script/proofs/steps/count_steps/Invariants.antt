@@ -1,10 +1,10 @@
-use Rattle.std.proofs.Common.{length}
+use Rattle.std.proofs.Common.{◌≡◌, ◌+◌, ◌≤◌, length}
 use Rattle.script.specs.Steps.{chip_step}
-use Rattle.script.proofs.Sofar.{Counted}
+use Rattle.script.specs.Reading.{read_script, counted}
+use Rattle.script.specs.Views.{left}
+use Rattle.script.proofs.Ahead.{counted_from}
 use Rattle.script.proofs.steps.count_steps.Given as goal
 
-abbrev pub invariant-loop-rest : goal.invariant-loop-rest
-invariant-loop-rest l = Counted chip_step l.script l.rest l.steps
-
-abbrev pub decreases-loop-rest : goal.decreases-loop-rest
-decreases-loop-rest l = length l.rest
+abbrev pub invariant-loop-step : goal.invariant-loop-step
+invariant-loop-step l =
+    (l.steps + length l.step-iterator.rest.now ≤ length l.script) × (counted_from l.steps (left l.step-iterator) ≡ counted (read_script chip_step l.script))
