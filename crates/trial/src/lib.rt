@@ -5,7 +5,7 @@
 ghost use Rattle.std.specs.Prelude.{◌≡◌, ◌≤◌, MatchOption};
 ghost use Rattle.trial.specs.Rows.{Right};
 
-use datasheet::Part;
+pub use datasheet::Part;
 
 // A session put to the pins in SPI mode 0: the first `bits` bits of the bytes.
 #[derive(Clone, Copy, Drop)]
