@@ -21,8 +21,8 @@ fitted c b h =
       fit = h.0;
       size = true-eqb (length c.memory.now) (cells c.sheet) (sym h.0);
       bytes = b;
-      stored-byte = c.status.byte;
-      stored-high = c.status.high;
+      stored-byte = c.status.stored.byte;
+      stored-high = c.status.stored.high;
       still = c.status.still;
     }
 

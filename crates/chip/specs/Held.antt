@@ -5,4 +5,4 @@ use Rattle.chip.specs.declared.status.Status.{Status}
 
 -- the record with these cells
 abbrev pub held : List ℕ → Status → Record
-held memory s = record { memory = memory; stored = s.stored; latch = s.latch; asleep = s.asleep }
+held memory s = record { memory = memory; stored = s.stored.bits; latch = s.latch; asleep = s.asleep }

@@ -1,5 +1,3 @@
-ghost use Rattle.std.specs.Prelude.{◌≡◌, ◌%◌};
-
 mod compare;
 mod power;
 mod rules;
@@ -7,14 +5,13 @@ mod sample;
 
 use crate::session::Session;
 use crate::status::Status;
+use crate::stored::StoredBits;
 use datasheet::Sheet;
 
-// A parked chip has no power: its sheet, and the stored status bits 7 to 2 as a byte. It takes no samples, and powering it
-// uses it up.
+// A parked chip has no power: its sheet, and the stored status bits. It takes no samples, and powering it uses it up.
 pub struct ParkedChip {
     sheet: Sheet,
-    stored: u8,
-    ghost high: { stored % 4 ≡ 0 },
+    stored: StoredBits,
 }
 
 // A chip with power, over the memory that it was lent, and its session, if one is open. It is fitted if that memory fits

@@ -4,5 +4,6 @@
 mod chip;
 mod session;
 mod status;
+mod stored;
 
 pub use chip::{Chip, ParkedChip};

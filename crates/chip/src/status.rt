@@ -1,15 +1,15 @@
 // What a chip holds besides its cells.
-ghost use Rattle.std.specs.Prelude.{◌≡◌, ◌%◌, ◌<◌, true, false};
+ghost use Rattle.std.specs.Prelude.{◌≡◌, true, false};
 
 mod rules;
 
-// The stored status bits 7 to 2 as a byte, the write latch, and the sleep mark.
-#[derive(Clone, Copy, Drop, PartialEq)]
+use crate::stored::StoredBits;
+
+// The stored bits and the write latch, which the status byte shows, and the sleep mark, which it does not.
+#[derive(Clone, Copy, Drop, PartialEq, Eq)]
 pub struct Status {
-    pub stored: u8,
+    pub stored: StoredBits,
     pub latch: bool,
     pub asleep: bool,
-    ghost byte: { stored < 256 },
-    ghost high: { stored % 4 ≡ 0 },
     ghost still: { asleep ≡ true → latch ≡ false },
 }

@@ -29,6 +29,7 @@ fn fault_bytes(refusal: Refusal) -> [u8; 4]
 
 fn main(rt: HostRuntime) -> io::Result<()> {
     let mut script = Vec::new(rt.alloc());
+    // `usize` to `u64` has no `From`
     rt.stdin().take(MOST as u64).read_to_end(&mut script)?;
     // nine bytes for each step, and a step has one byte at least
     let mut answers = [0u8; 9 * MOST];

@@ -1,5 +1,5 @@
 ghost use Rattle.std.specs.Prelude.{◌≡◌, Some};
-ghost use Rattle.datasheet.specs.Levels.{level_number, level_name, read_as};
+ghost use Rattle.datasheet.specs.Levels.{level_number, level_name, driven, read_as};
 
 use std::fmt;
 
@@ -20,6 +20,15 @@ impl Level {
             Level::Low => false,
             Level::High | Level::HighZ => true,
         }
+    }
+}
+
+// SO driven to a bit.
+impl From<bool> for Level {
+    ghost from_gives = { λ bit level. level ≡ driven bit };
+
+    fn from(bit: bool) -> Level {
+        if bit { Level::High } else { Level::Low }
     }
 }
 

@@ -41,6 +41,16 @@ impl Registers {
         }
     }
 
+    // The number of bits before the first data bit of the session's command.
+    pub fn first_data(self, sheet: Sheet) -> u8
+        ensures { result ≡ first_data (command_at sheet self.count self.code) }
+    {
+        match self.command(sheet) {
+            Some(Command::Fstrd) => 32,
+            _ => 24,
+        }
+    }
+
     // What is kept after one bit more.
     pub fn taken(self, sheet: Sheet, bit: bool) -> Registers
         ensures { result ≡ taken sheet self bit }
@@ -64,11 +74,12 @@ impl Registers {
         ensures { result ≡ moved sheet self bit }
     {
         let place = usize::from(self.place);
+        // a place is below 2^15, the most cells of a sheet, so the casts lose nothing, and `try_from` could not fail
         if self.count < 8 {
             self.place
         } else if self.count < 24 {
             ((2 * place + usize::from(bit)) % sheet.cells()) as u16
-        } else if turns(first_data(self.command(sheet)), self.count) {
+        } else if turns(self.first_data(sheet), self.count) {
             ((place + 1) % sheet.cells()) as u16
         } else {
             self.place
@@ -81,16 +92,6 @@ fn shifted(register: u8, bit: bool) -> u8
     ensures { result ≡ (2 * register + value_of bit) % 256 }
 {
     (2 * (register % 128)) + u8::from(bit)
-}
-
-// The number of bits before the first data bit.
-fn first_data(command: Option<Command>) -> u8
-    ensures { result ≡ first_data command }
-{
-    match command {
-        Some(Command::Fstrd) => 32,
-        _ => 24,
-    }
 }
 
 // After n bits, where the data begin after `first`, the next bit completes a data byte.

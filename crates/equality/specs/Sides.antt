@@ -7,8 +7,8 @@ use Rattle.image.specs.declared.Cell.{Cell}
 abbrev pub fences_of : List Cell → List Bool
 fences_of cs = map (λ c. c.fenced) cs
 
--- a board that is kept: before and after, it means the same image and has what it was lent; `board` says of a board of this
+-- a board that is kept: before and after, it means the same image and has what it was lent; `build` says of a board of this
 -- build what these two are
-pub record Kept {B : Type 0} (board : Ghosts B) (before after : B) : Type 0 where
-  pub image : board.image after ≡ board.image before
-  pub lent : board.lent after ≡ board.lent before
+pub record Kept {B : Type 0} (build : Ghosts B) (before after : B) : Type 0 where
+  pub image : build.image after ≡ build.image before
+  pub lent : build.lent after ≡ build.lent before

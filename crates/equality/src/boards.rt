@@ -73,7 +73,7 @@ impl<P: Board, Q: Board> Pair<P, Q> {
         ensures exact { Decides result (fences_of (P.Board.image self.old.left) ≡ fences_of (Q.Board.image self.old.right)) }
         ensures kept { Untouched self.old self.new }
     {
-        // `Iterator::eq` does not say how it leaves the boards that its iterators hold, so the fences are compared in a loop.
+        // tried by `Iterator::eq`: it does not say how it leaves the boards that its iterators hold
         let mut right = Fences::of(&mut self.right, self.size);
         for place in Fences::of(&mut self.left, self.size) {
             if right.next() != Some(place) {
@@ -102,6 +102,7 @@ impl<P: Board, Q: Board> Pair<P, Q> {
         ensures exact { Decides result (bytes_of (P.Board.image self.old.left) ≡ bytes_of (Q.Board.image self.old.right)) }
         ensures kept { Untouched self.old self.new }
     {
+        // tried by `all`: it does not say how it leaves the boards that its closure borrows
         for start in (0..self.size).step_by(CHUNK) {
             if !self.same_chunk(start) {
                 return false;

@@ -12,13 +12,14 @@ use chip::Chip;
 use datasheet::Refusal;
 
 // The counts that a run answers: its steps, and the answer bytes that they put into the buffer.
-#[derive(Clone, Copy)]
+#[derive(Clone, Copy, Drop)]
 pub struct Counts {
     pub steps: usize,
     pub bytes: usize,
 }
 
-// The answers of a run: their bytes, `used` of them, stand one behind the other at the front of a buffer.
+// The answers of a run: their bytes, `used` of them, stand one behind the other at the front of a buffer. The buffer is the
+// caller's, since a run takes no memory of its own, which could run out.
 #[derive(Drop)]
 struct Answers<'b> {
     buffer: &'b mut [u8],

@@ -77,6 +77,7 @@ pub(crate) fn count_steps(script: &[u8]) -> Result<usize, Refusal>
     let mut steps = 0;
     for step in Steps::new(script) {
         step?;
+        // tried by `try_fold`: that the sum fits stays open, since its closure cannot show it
         steps += 1;
     }
     Ok(steps)

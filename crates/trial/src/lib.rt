@@ -2,7 +2,7 @@
 // the checker, and the test runs the same rows through the chip.
 #![tactic(auto)]
 
-ghost use Rattle.std.specs.Prelude.{◌≡◌, ◌≤◌, MatchOption};
+ghost use Rattle.std.specs.Prelude.{◌≤◌, MatchOption};
 ghost use Rattle.trial.specs.Rows.{Right};
 
 pub use datasheet::Part;

@@ -7,7 +7,8 @@ ghost use Rattle.chip.specs.Views.{record_of, chip_of, Resting};
 
 use super::Chip;
 
-// Whether two memories hold the same bytes; and both hold bytes only.
+// Whether two memories hold the same bytes; and both hold bytes only, which the law of chips asks and only a function that
+// is lent a slice can say.
 fn same_bytes(a: &[u8], b: &[u8]) -> bool
     ensures same { Decides result (a.now ≡ b.now) }
     ensures bytes { (i : ℕ) → slice_index a.now i < 256 }

@@ -6,32 +6,33 @@ ghost use Rattle.chip.specs.Views.{chip_of};
 
 use super::{Chip, ParkedChip};
 use crate::status::Status;
+use crate::stored::StoredBits;
 use datasheet::Sheet;
 
 impl ParkedChip {
     // A parked chip of this sheet. Bits 1 and 0 of the given status byte are dropped.
     pub fn new(sheet: Sheet, status: u8) -> ParkedChip
         ensures sheet { result.sheet ≡ sheet }
-        ensures stored { result.stored ≡ stored_bits status }
+        ensures stored { result.stored.bits ≡ stored_bits status }
     {
         ParkedChip {
             sheet,
-            stored: status - status % 4,
+            stored: StoredBits::from(status),
         }
     }
 
     // Takes a parked chip apart into its sheet and its stored bits.
     pub fn into_parts(self) -> (Sheet, u8)
         ensures sheet { result.0 ≡ self.sheet }
-        ensures stored { result.1 ≡ self.stored }
+        ensures stored { result.1 ≡ self.stored.bits }
     {
         let ParkedChip { sheet, stored } = self;
-        (sheet, stored)
+        (sheet, stored.bits)
     }
 
     // Powers the chip over lent memory. A memory that does not fit the sheet makes a blank chip.
     pub fn power(self, memory: &mut [u8]) -> Chip<'_>
-        ensures state { chip_of result ≡ powered self.sheet memory.old self.stored }
+        ensures state { chip_of result ≡ powered self.sheet memory.old self.stored.bits }
         ensures lent { result.memory.ghost_name ≡ memory.entry.ghost_name }
     {
         let ParkedChip { sheet, stored } = self;
@@ -49,7 +50,7 @@ impl Chip<'_> {
     pub fn power_off(self) -> ParkedChip
         ensures memory { self.exit.0.now ≡ self.entry.memory.now }
         ensures sheet { result.sheet ≡ self.entry.sheet }
-        ensures stored { result.stored ≡ self.entry.status.stored }
+        ensures stored { result.stored.bits ≡ self.entry.status.stored.bits }
     {
         let Chip {
             memory: _,
@@ -57,8 +58,10 @@ impl Chip<'_> {
             status,
             session: _,
         } = self;
-        let stored = status.stored;
-        ParkedChip { sheet, stored }
+        ParkedChip {
+            sheet,
+            stored: status.stored,
+        }
     }
 
     // Takes power away and gives it back over the same memory.

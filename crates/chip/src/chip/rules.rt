@@ -9,6 +9,7 @@ ghost use Rattle.datasheet.specs.declared.level.Level.TheVariants.{HighZ};
 ghost use Rattle.chip.specs.Views.{record_of, SameButRecord};
 
 use super::Chip;
+use crate::stored::StoredBits;
 use datasheet::{Command, Level, Registers, Sample};
 
 // The level that shows bit i of a number.
@@ -16,11 +17,7 @@ fn bit_level(x: u32, i: u8) -> Level
     requires { i < 32 }
     ensures { result ≡ driven (bit_at i x) }
 {
-    if (x >> i) % 2 == 1 {
-        Level::High
-    } else {
-        Level::Low
-    }
+    Level::from((x >> i) % 2 == 1)
 }
 
 // Whether bit n completes a data byte of WRITE.
@@ -63,7 +60,7 @@ impl Chip<'_> {
             Some(Command::Wren) if n == 8 => self.status.latch = true,
             Some(Command::Wrdi) if n == 8 => self.status.latch = false,
             Some(Command::Wrsr) if n == 16 && self.status.may_store(wp) => {
-                self.status.stored = byte - byte % 4
+                self.status.stored = StoredBits::from(byte)
             }
             Some(Command::Write) if completes(n) && self.status.may_write(self.sheet, place) => {
                 write_cell(self.memory, place, byte)
@@ -92,6 +89,7 @@ impl Chip<'_> {
         ensures { result ≡ (if self.now.status.asleep then HighZ else fall_kept self.now.sheet (record_of self.now) kept) }
     {
         let n = kept.count;
+        let first = kept.first_data(self.sheet);
         match kept.command(self.sheet) {
             _ if self.status.asleep => Level::HighZ,
             Some(Command::Rdsr) => {
@@ -100,11 +98,11 @@ impl Chip<'_> {
             Some(Command::Rdid) => {
                 bit_level(self.sheet.identity(), 31 - n.saturating_sub(8).min(31))
             }
-            Some(Command::Read) if n >= 24 => {
-                bit_level(u32::from(cell(self.memory, kept.place)), 7 - (n - 24) % 8)
-            }
-            Some(Command::Fstrd) if n >= 32 => {
-                bit_level(u32::from(cell(self.memory, kept.place)), 7 - (n - 32) % 8)
+            Some(Command::Read | Command::Fstrd) if n >= first => {
+                bit_level(
+                    u32::from(cell(self.memory, kept.place)),
+                    7 - (n - first) % 8,
+                )
             }
             _ => Level::HighZ,
         }

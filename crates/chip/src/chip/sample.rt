@@ -26,45 +26,21 @@ impl Chip<'_> {
             // a session begins
             (None, _) => (Registers::cleared(), Level::HighZ),
             // the session ends
-            (Some(session), Sample { cs: true, .. }) => {
-                self.status.end(self.sheet, session.kept);
+            (Some(last), Sample { cs: true, .. }) => {
+                self.status.end(self.sheet, last.kept);
                 self.session = None;
                 return;
             }
-            // a rise: SI is taken
-            (
-                Some(
-                    Session {
-                        sck: false,
-                        hold: true,
-                        kept,
-                        so,
-                    },
-                ),
-                Sample {
-                    sck: true,
-                    hold: true,
-                    ..
-                },
-            ) => (self.take(kept, sample), so),
+            // a rise, with HOLD high in both: SI is taken
+            (Some(last), _) if last.hold && sample.hold && !last.sck && sample.sck => {
+                (self.take(last.kept, sample), last.so)
+            }
             // a fall: SO is set
-            (
-                Some(
-                    Session {
-                        sck: true,
-                        hold: true,
-                        kept,
-                        ..
-                    },
-                ),
-                Sample {
-                    sck: false,
-                    hold: true,
-                    ..
-                },
-            ) => (kept, self.show(kept)),
+            (Some(last), _) if last.hold && sample.hold && last.sck && !sample.sck => {
+                (last.kept, self.show(last.kept))
+            }
             // no edge counts
-            (Some(session), _) => (session.kept, session.so),
+            (Some(last), _) => (last.kept, last.so),
         };
         let Sample { sck, hold, .. } = sample;
         self.session = Some(Session {

@@ -1,5 +1,5 @@
-// The rules that look at no cell.
-ghost use Rattle.std.specs.Prelude.{◌≡◌, ℕ, ◌%◌, false, List, []};
+// The rules that look at no cell; what they say is said of a record without cells.
+ghost use Rattle.std.specs.Prelude.{◌≡◌, ℕ, false, List, []};
 ghost use Rattle.datasheet.specs.Records.{status};
 ghost use Rattle.datasheet.specs.Protection.{first_protected, may_write, may_store};
 ghost use Rattle.datasheet.specs.Chips.{closed};
@@ -7,12 +7,12 @@ ghost use Rattle.datasheet.specs.Kept.{bounded};
 ghost use Rattle.chip.specs.Held.{held};
 
 use super::Status;
+use crate::stored::StoredBits;
 use datasheet::{Command, Registers, Sheet};
 
 impl Status {
     // With power just given: awake, and the latch at 0.
-    pub(crate) fn powered(stored: u8) -> Status
-        requires { stored % 4 ≡ 0 }
+    pub(crate) fn powered(stored: StoredBits) -> Status
         ensures stored { result.stored ≡ stored }
         ensures latch { result.latch ≡ false }
         ensures asleep { result.asleep ≡ false }
@@ -24,11 +24,11 @@ impl Status {
         }
     }
 
-    // The status byte.
+    // The status byte. It is no conversion, since it leaves out the sleep mark.
     pub(crate) fn byte(self) -> u8
         ensures { result ≡ status (held [] self) }
     {
-        self.stored + 2 * u8::from(self.latch)
+        self.stored.bits + 2 * u8::from(self.latch)
     }
 
     // The first protected cell, by BP1 and BP0.
@@ -37,7 +37,7 @@ impl Status {
     {
         let cells = sheet.cells();
         // two bits, decided where they are read: an enum of them would be made and matched at once
-        match self.stored / 4 % 4 {
+        match self.stored.bits / 4 % 4 {
             0 => cells,
             1 => cells - cells / 4,
             2 => cells / 2,
@@ -49,14 +49,14 @@ impl Status {
     pub(crate) fn may_write(self, sheet: Sheet, place: u16) -> bool
         ensures { result ≡ may_write sheet (held [] self) place }
     {
-        self.latch && !(self.first_protected(sheet) <= usize::from(place))
+        self.latch && usize::from(place) < self.first_protected(sheet)
     }
 
     // Whether WRSR may store at this level of WP.
     pub(crate) fn may_store(self, wp: bool) -> bool
         ensures { result ≡ may_store wp (held [] self) }
     {
-        self.latch && !(self.stored / 128 % 2 == 1 && !wp)
+        self.latch && !(self.stored.bits / 128 % 2 == 1 && !wp)
     }
 
     // The end of a session. It wakes a sleeping chip, and does no more there.
