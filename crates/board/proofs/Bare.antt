@@ -1,14 +1,12 @@
 -- Plain memory: its image has no fence, and bytes put into it are bytes put into the image.
-use Rattle.std.proofs.Common.{◌≡◌, ℕ, zero, suc, ◌+◌, ◌≤◌, min, true, List, [], ◌∷◌, ◌++◌, map, length, take, drop, None, Ok, sym, refl, ap, ◌∙◌, suc-add, arith}
+use Rattle.std.proofs.Common.{◌≡◌, ℕ, zero, suc, ◌+◌, ◌-◌, ◌≤◌, min, true, List, [], ◌∷◌, ◌++◌, map, length, take, drop, None, Ok, sym, refl, ap, ap₂, ◌∙◌, suc-add, arith}
+use borrow.Rule.Slice.PartMut.{post_of, Post-is}
 use Rattle.std.proofs.lemmas.List.{drop-map, take-map, length-map, length-take}
-use Rattle.image.specs.Images.{most, inside, part, bytes_of, first_fenced, fence_in, overlaid, overwritten, free}
-use Rattle.image.specs.Results.{fence_result, read_result, read_into, write_result, written}
+use Rattle.image.specs.Images.{most, inside, bytes_of, first_fenced, fence_in, overlaid, overwritten, free}
+use Rattle.image.specs.Results.{range_result, fence_result, read_into, write_result, written}
 use Rattle.image.specs.Layers.{plain}
-use Rattle.image.proofs.Cells.{part-take}
+use Rattle.image.proofs.Cells.{range-inside, range_fits}
 use Rattle.board.specs.Plains.{patched, memory_after}
-
-pub length-plain : (memory : List ℕ) → length (plain memory) ≡ min most (length memory)
-length-plain memory = simp (length-map, length-take)
 
 none-fenced : (at : ℕ) (bs : List ℕ) → first_fenced at (map free bs) ≡ None
 none-fenced at [] = refl
@@ -20,9 +18,6 @@ no-fence memory s n = simp (drop-map, take-map) (none-fenced s (take n (drop s (
 bytes-free : (bs : List ℕ) → bytes_of (map free bs) ≡ bs
 bytes-free [] = refl
 bytes-free (b ∷ bs) = ap (λ t. b ∷ t) (bytes-free bs)
-
-bytes-part : (memory : List ℕ) (s n : ℕ) → s + n ≤ most → bytes_of (part (plain memory) s n) ≡ take n (drop s memory)
-bytes-part memory s n h = simp (drop-map, take-map, bytes-free) (part-take most s n memory h)
 
 -- bytes put into the memory, as far as the limit lets them be seen
 overlaid-free : (xs bs : List ℕ) → length bs ≤ length xs → overlaid (map free xs) bs ≡ map free (bs ++ drop (length bs) xs)
@@ -48,25 +43,38 @@ patched-plain zero (suc s) (x ∷ memory) bs h k = absurd (omega arith)
 patched-plain (suc l) (suc s) (x ∷ memory) bs h k =
     rw (suc-add s (length bs)) (ap (λ t. free x ∷ t) (patched-plain l s memory bs (omega arith) (omega arith)))
 
--- ## The calls, where the range lies inside
+-- ## The calls, where the range is not refused
 
-module _ (memory : List ℕ) (s : ℕ) where
-  pub fence-none : (n : ℕ) → inside (plain memory) s n ≡ true → Ok None ≡ fence_result (plain memory) s n
-  fence-none n t = rw (t, no-fence memory s n)
+module _ {u : Unit {0}} {cells : List ℕ} (memory : List ℕ) (s n : ℕ) (all : cells ≡ take most memory) (lies : Ok u ≡ range_result (length cells) s n) where
+  plain_inside : inside (plain memory) s n ≡ true
+  plain_inside = simp (length-map, ← all) (range-inside (length cells) s n lies)
 
-  pub read_done : (n : ℕ) → inside (plain memory) s n ≡ true → Ok tt ≡ read_result (plain memory) s n
-  read_done n t = rw t
+  pub fits_memory : s + n ≤ min most (length memory)
+  fits_memory = let h = range_fits (length cells) s n lies in let e = length-take most memory in let l = ap length all in omega arith
 
-  pub read-filled : (buffer out : List ℕ) → inside (plain memory) s (length buffer) ≡ true → s + length buffer ≤ most →
-      out ≡ take (length buffer) (drop s memory) → out ≡ read_into (plain memory) s buffer
-  read-filled buffer out t h e = rw t (e ∙ sym (bytes-part memory s (length buffer) h))
+  pub fence-none : Ok None ≡ fence_result (plain memory) s n
+  fence-none = rw (plain_inside, no-fence memory s n)
 
-  pub write_done : (bs : List ℕ) → inside (plain memory) s (length bs) ≡ true → Ok tt ≡ write_result (plain memory) s bs
-  write_done bs t = rw (t, no-fence memory s (length bs))
+module _ {u : Unit {0}} {cells : List ℕ} (memory : List ℕ) (s : ℕ) (bs : List ℕ) (all : cells ≡ take most memory) (lies : Ok u ≡ range_result (length cells) s (length bs)) where
+  -- a buffer after a copy out of that part of the cells
+  pub read-filled : {out : List ℕ} → out ≡ take (s + length bs - s) (drop s cells) → out ≡ read_into (plain memory) s bs
+  read-filled copied =
+      let k : s + length bs - s ≡ length bs = omega arith in
+      rw (plain_inside memory s (length bs) all lies) (copied ∙ simp (k, all, drop-map, take-map, bytes-free))
 
-  pub write-left : (bs new : List ℕ) → inside (plain memory) s (length bs) ≡ true → s + length bs ≤ most → s + length bs ≤ length memory →
-      new ≡ patched memory s bs → plain new ≡ written (plain memory) s bs
-  write-left bs new t h k e = rw (t, no-fence memory s (length bs)) (ap plain e ∙ patched-plain most s memory bs h k)
+  -- the memory after a copy into that part of it
+  copied-in : {new : List ℕ} → new ≡ bs → take s memory ++ (new ++ post_of s (s + length bs - s) memory) ≡ patched memory s bs
+  copied-in copied =
+      let up : s ≤ s + length bs = omega arith in
+      ap₂ (λ (part rest : List ℕ). take s memory ++ (part ++ rest)) copied (Post-is s (s + length bs) memory up)
 
-  pub memory-left : (bs new : List ℕ) → inside (plain memory) s (length bs) ≡ true → new ≡ patched memory s bs → new ≡ memory_after memory s bs
-  memory-left bs new t e = rw t e
+  pub write_done : Ok tt ≡ write_result (plain memory) s bs
+  write_done = rw (plain_inside memory s (length bs) all lies, no-fence memory s (length bs))
+
+  pub memory-left : {new : List ℕ} → new ≡ bs → take s memory ++ (new ++ post_of s (s + length bs - s) memory) ≡ memory_after memory s bs
+  memory-left copied = rw (plain_inside memory s (length bs) all lies) (copied-in copied)
+
+  pub write-left : {new : List ℕ} → new ≡ bs → plain (take s memory ++ (new ++ post_of s (s + length bs - s) memory)) ≡ written (plain memory) s bs
+  write-left copied =
+      let h = fits_memory memory s (length bs) all lies in
+      rw (plain_inside memory s (length bs) all lies, no-fence memory s (length bs)) (ap plain (copied-in copied) ∙ patched-plain most s memory bs (omega arith) (omega arith))

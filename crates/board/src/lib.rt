@@ -1,9 +1,9 @@
 // Boards: anything that means an image, and plain memory, the lowest of them.
 #![tactic(auto)]
 
-ghost use Rattle.std.specs.Prelude.{◌≡◌, ◌+◌, ◌≤◌, length, nat_le};
+ghost use Rattle.std.specs.Prelude.{◌≡◌, ◌≤◌, length};
 ghost use Rattle.image.specs.Images.{Image, most};
-ghost use Rattle.image.specs.Results.{fence_result, read_result, read_into, write_result, written};
+ghost use Rattle.image.specs.Results.{range_result, fence_result, read_result, read_into, write_result, written};
 ghost use Rattle.image.specs.Lent.{Lent, through};
 
 mod plain;
@@ -14,14 +14,19 @@ pub use plain::{Plain, write_plain};
 // The most cells that a board has.
 pub const MOST: usize = 1_048_576;
 
-// Whether `count` places from `start` on lie in a board of this size.
-pub fn within(start: usize, count: usize, size: usize) -> bool
-    ensures { result ≡ nat_le (start + count) size }
+// Refuses `count` places from `start` on that do not all lie in a board of this size.
+pub fn check_range(start: usize, count: usize, size: usize) -> Result<(), Refusal>
+    ensures { result ≡ range_result size start count }
 {
-    start <= size && count <= size - start
+    if start <= size && count <= size - start {
+        Ok(())
+    } else {
+        Err(Refusal::OutOfRange)
+    }
 }
 
-// A board means an image. Each call answers and leaves what the definitions say of it.
+// A board means an image. Each call answers and leaves what the definitions say of it. An impl that says more repeats these
+// clauses, since its own replace the trait's.
 pub trait Board {
     // The cells in order.
     ghost image: { Self → Image };
@@ -36,7 +41,8 @@ pub trait Board {
         ensures same { image self.new ≡ image self.old }
         ensures lent { lent self.new ≡ lent self.old };
 
-    // The first fenced place among `count` places from `start` on.
+    // The first fenced place among `count` places from `start` on: asked in the shape of a read and a write, whose count is the
+    // length of what they take, and so by no `Range`.
     fn first_fence(&mut self, start: usize, count: usize) -> Result<Option<usize>, Refusal>
         ensures answer { result ≡ fence_result (image self.old) start count }
         ensures same { image self.new ≡ image self.old }

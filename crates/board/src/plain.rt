@@ -1,11 +1,11 @@
-ghost use Rattle.std.specs.Prelude.{◌≡◌, ◌+◌, ◌≤◌, length, take, drop};
+ghost use Rattle.std.specs.Prelude.{◌≡◌, ◌≤◌, length, take};
 ghost use Rattle.image.specs.Images.{most};
 ghost use Rattle.image.specs.Results.{fence_result, read_result, read_into, write_result, written};
 ghost use Rattle.image.specs.Layers.{plain};
 ghost use Rattle.image.specs.Lent.{one};
-ghost use Rattle.board.specs.Plains.{plain_image, patched, memory_after};
+ghost use Rattle.board.specs.Plains.{plain_image, memory_after};
 
-use crate::{Board, MOST, within};
+use crate::{Board, MOST, check_range};
 use datasheet::Refusal;
 
 // Plain memory: the first 1,048,576 bytes of lent memory, all free.
@@ -23,32 +23,11 @@ impl<'m> Plain<'m> {
         Plain { memory }
     }
 
-    // The number of bytes that are cells.
-    fn extent(&self) -> usize
-        ensures size { result ≡ length (plain_image self.now) }
-        ensures few { result ≤ most }
-        ensures bound { result ≤ length self.now.memory.now }
+    // The bytes that are cells.
+    fn cells(&self) -> &[u8]
+        ensures { result.now ≡ take most self.now.memory.now }
     {
-        self.memory.len().min(MOST)
-    }
-
-    // Copies bytes out of the memory.
-    fn load(&self, start: usize, buffer: &mut [u8])
-        requires { start + length buffer.old ≤ length self.now.memory.now }
-        ensures { buffer.new ≡ take (length buffer.old) (drop start self.now.memory.now) }
-    {
-        let end = start + buffer.len();
-        buffer.copy_from_slice(&self.memory[start..end]);
-    }
-
-    // Copies bytes into the memory.
-    fn store(&mut self, start: usize, bytes: &[u8])
-        requires { start + length bytes.now ≤ length self.old.memory.now }
-        ensures memory { self.new.memory.now ≡ patched self.old.memory.now start bytes.now }
-        ensures lent { self.new.memory.ghost_name ≡ self.old.memory.ghost_name }
-    {
-        let end = start + bytes.len();
-        self.memory[start..end].copy_from_slice(bytes);
+        &self.memory[..MOST.min(self.memory.len())]
     }
 }
 
@@ -64,7 +43,7 @@ impl Board for Plain<'_> {
         ensures lent { one self.new.memory.ghost_name ≡ one self.old.memory.ghost_name }
         ensures memory { self.new.memory.now ≡ self.old.memory.now }
     {
-        self.extent()
+        self.cells().len()
     }
 
     fn first_fence(&mut self, start: usize, count: usize) -> Result<Option<usize>, Refusal>
@@ -73,11 +52,8 @@ impl Board for Plain<'_> {
         ensures lent { one self.new.memory.ghost_name ≡ one self.old.memory.ghost_name }
         ensures memory { self.new.memory.now ≡ self.old.memory.now }
     {
-        if within(start, count, self.extent()) {
-            Ok(None)
-        } else {
-            Err(Refusal::OutOfRange)
-        }
+        check_range(start, count, self.cells().len())?;
+        Ok(None)
     }
 
     fn read(&mut self, start: usize, buffer: &mut [u8]) -> Result<(), Refusal>
@@ -87,10 +63,9 @@ impl Board for Plain<'_> {
         ensures lent { one self.new.memory.ghost_name ≡ one self.old.memory.ghost_name }
         ensures memory { self.new.memory.now ≡ self.old.memory.now }
     {
-        if !within(start, buffer.len(), self.extent()) {
-            return Err(Refusal::OutOfRange);
-        }
-        self.load(start, buffer);
+        let cells = self.cells();
+        check_range(start, buffer.len(), cells.len())?;
+        buffer.copy_from_slice(&cells[start..start + buffer.len()]);
         Ok(())
     }
 
@@ -100,10 +75,8 @@ impl Board for Plain<'_> {
         ensures lent { one self.new.memory.ghost_name ≡ one self.old.memory.ghost_name }
         ensures memory { self.new.memory.now ≡ memory_after self.old.memory.now start bytes.now }
     {
-        if !within(start, bytes.len(), self.extent()) {
-            return Err(Refusal::OutOfRange);
-        }
-        self.store(start, bytes);
+        check_range(start, bytes.len(), self.cells().len())?;
+        self.memory[start..start + bytes.len()].copy_from_slice(bytes);
         Ok(())
     }
 }

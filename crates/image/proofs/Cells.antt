@@ -1,12 +1,13 @@
 -- Facts of images that the proofs of several boards share.
-use Rattle.std.proofs.Common.{◌≡◌, ℕ, zero, suc, ◌+◌, ◌≤◌, min, Bool, true, false, cond, leb, List, [], ◌∷◌, length, take, drop, Some, Ok, Err, Result, sym, refl, ap, ◌∙◌, inl, inr, add_assoc, suc-add, zero-add, arith, leb-true}
+use Rattle.std.proofs.Common.{◌≡◌, ℕ, zero, suc, ◌+◌, ◌≤◌, min, Bool, true, false, cond, leb, List, [], ◌∷◌, length, take, drop, Some, None, Option, Ok, Err, Result, sym, refl, ap, ◌∙◌, inl, inr, add_assoc, suc-add, zero-add, arith, leb-true}
 use Rattle.std.proofs.lemmas.List.{length-take, length-drop, length-append, take-take, take_all, drop_all}
 use Rattle.std.proofs.lemmas.Bool.Decides.{leb_tells}
-use Rattle.std.specs.Option.{option_map}
+use Rattle.std.specs.Option.{option_map, MatchOption, IsSomeAnd}
 use Rattle.datasheet.specs.declared.refusal.Refusal.{Refusal}
+use Rattle.datasheet.specs.declared.refusal.Refusal.TheVariants.{OutOfRange}
 use Rattle.image.specs.declared.Cell.{Cell}
-use Rattle.image.specs.Images.{Image, inside, first_fenced, overlaid, overwritten}
-use Rattle.image.specs.Results.{unless_fenced, if_accepted, write_result, written}
+use Rattle.image.specs.Images.{Image, first_fenced, overlaid, overwritten}
+use Rattle.image.specs.Results.{range_result, unless_fenced}
 
 -- ## Lists
 
@@ -18,21 +19,18 @@ part-take (suc l) (suc s) n [] h = refl
 part-take (suc l) (suc s) n (x ∷ xs) h = part-take l s n xs (omega arith)
 
 -- no more can be dropped or taken than there is
-pub drop_min : {X : Type 0} (n : ℕ) (xs : List X) → drop (min n (length xs)) xs ≡ drop n xs
-drop_min n xs =
+min-length : {X Y : Type 0} (f : ℕ → Y) (n : ℕ) (xs : List X) → (length xs ≤ n → f (length xs) ≡ f n) → f (min n (length xs)) ≡ f n
+min-length f n xs past =
     elim (leb_tells n (length xs)) [
-      | inl p ↦ (let h = p.1 in let e : min n (length xs) ≡ n = omega arith in ap (λ (k : ℕ). drop k xs) e)
-      | inr p ↦ (let h = p.1 in let e : min n (length xs) ≡ length xs = omega arith in
-          ap (λ (k : ℕ). drop k xs) e ∙ drop_all (length xs) xs (omega arith) ∙ sym (drop_all n xs (omega arith)))
+      | inl p ↦ (let h = p.1 in let e : min n (length xs) ≡ n = omega arith in ap f e)
+      | inr p ↦ (let h = p.1 in let e : min n (length xs) ≡ length xs = omega arith in ap f e ∙ past (omega arith))
     ]
 
+pub drop_min : {X : Type 0} (n : ℕ) (xs : List X) → drop (min n (length xs)) xs ≡ drop n xs
+drop_min n xs = min-length (λ (k : ℕ). drop k xs) n xs (λ h. drop_all (length xs) xs (omega arith) ∙ sym (drop_all n xs h))
+
 pub take_min : {X : Type 0} (n : ℕ) (xs : List X) → take (min n (length xs)) xs ≡ take n xs
-take_min n xs =
-    elim (leb_tells n (length xs)) [
-      | inl p ↦ (let h = p.1 in let e : min n (length xs) ≡ n = omega arith in ap (λ (k : ℕ). take k xs) e)
-      | inr p ↦ (let h = p.1 in let e : min n (length xs) ≡ length xs = omega arith in
-          ap (λ (k : ℕ). take k xs) e ∙ take_all (length xs) xs (omega arith) ∙ sym (take_all n xs (omega arith)))
-    ]
+take_min n xs = min-length (λ (k : ℕ). take k xs) n xs (λ h. take_all (length xs) xs (omega arith) ∙ sym (take_all n xs h))
 
 -- ## The fence question
 
@@ -64,13 +62,6 @@ length-overlaid (c ∷ cs) (b ∷ bs) = ap suc (length-overlaid cs bs)
 pub length-overwritten : (i : Image) (s : ℕ) (bs : List ℕ) → length (overwritten i s bs) ≡ length i
 length-overwritten i s bs = simp (length-append, length-overlaid, length-take, length-drop) (omega arith)
 
-length-accepted : (r : Result (Unit {0}) Refusal) (new old : Image) → length new ≡ length old → length (if_accepted r new old) ≡ length old
-length-accepted (Ok u) new old e = e
-length-accepted (Err x) new old e = refl
-
-pub length-written : (i : Image) (s : ℕ) (bs : List ℕ) → length (written i s bs) ≡ length i
-length-written i s bs = length-accepted (write_result i s bs) (overwritten i s bs) i (length-overwritten i s bs)
-
 take-overlaid : (l : ℕ) (cs : List Cell) (bs : List ℕ) → take l (overlaid cs bs) ≡ overlaid (take l cs) bs
 take-overlaid zero cs bs = refl
 take-overlaid (suc l) [] bs = refl
@@ -90,10 +81,28 @@ drop-overwritten zero s i bs h = rw (zero-add s)
 drop-overwritten (suc b) s [] bs h = absurd (omega arith)
 drop-overwritten (suc b) s (c ∷ i) bs h = rw (suc-add b s) (drop-overwritten b s i bs (omega arith))
 
--- ## What the test of a range tells
+-- ## What an answer tells of the test of a range
 
-pub inside-true : {r : Bool} {size : ℕ} (i : Image) (s n : ℕ) → size ≡ length i → r ≡ leb (s + n) size → r ≡ true → inside i s n ≡ true
-inside-true i s n e f t = rw (sym e) (sym f ∙ t)
+pub accepted_by : {A : Type 0} {x y : A} (b : Bool) → ◌≡◌ {A = Result A Refusal} (Ok x) (cond b (Ok y) (Err OutOfRange)) → (b ≡ true) × (x ≡ y)
+accepted_by true e = (refl, cc)
+accepted_by false e = absurd (cc)
 
-pub within-true : {r : Bool} (size s n : ℕ) → r ≡ leb (s + n) size → r ≡ true → s + n ≤ size
-within-true size s n f t = leb-true (s + n) size (sym f ∙ t)
+pub refused_by : {A : Type 0} {x : Refusal} (b : Bool) (y : A) → ◌≡◌ {A = Result A Refusal} (Err x) (cond b (Ok y) (Err OutOfRange)) → (b ≡ false) × (x ≡ OutOfRange)
+refused_by true y e = absurd (cc)
+refused_by false y e = (refl, cc)
+
+-- a range that is not refused lies in a board of this size
+pub range-inside : {u : Unit {0}} (size s n : ℕ) → Ok u ≡ range_result size s n → leb (s + n) size ≡ true
+range-inside size s n e = (accepted_by (leb (s + n) size) e).0
+
+pub range_fits : {u : Unit {0}} (size s n : ℕ) → Ok u ≡ range_result size s n → s + n ≤ size
+range_fits size s n e = leb-true (s + n) size (range-inside size s n e)
+
+-- ## A place told by another
+
+-- what `map` gives of an Option, where the closure gives f x for x
+pub option_mapped : {A B : Type 0} (P : A → B → Type 0) (f : A → B) (o : Option A) (r : Option B) → ((x : A) (y : B) → P x y → y ≡ f x) →
+    MatchOption o (r ≡ None) (λ x. IsSomeAnd r (P x)) → r ≡ option_map f o
+option_mapped P f None r h m = m
+option_mapped P f (Some x) None h m = absurd m
+option_mapped P f (Some x) (Some y) h m = ap Some (h x y m)

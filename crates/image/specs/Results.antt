@@ -1,9 +1,13 @@
 -- What each call of a board answers, and what it leaves. A range that does not lie in the image is refused by 4, and a write
 -- to a range with a fenced cell by 5; 4 comes before 5, and a refusal leaves everything.
-use Rattle.std.specs.Prelude.{ℕ, cond, List, length, Some, None, Ok, Err, Option, Result}
+use Rattle.std.specs.Prelude.{ℕ, ◌+◌, cond, List, length, Some, None, Ok, Err, Option, Result, nat_le}
 use Rattle.datasheet.specs.declared.refusal.Refusal.{Refusal}
 use Rattle.datasheet.specs.declared.refusal.Refusal.TheVariants.{OutOfRange, Fenced}
 use Rattle.image.specs.Images.{Image, inside, part, bytes_of, fence_in, overwritten}
+
+-- the test of a range of count places from start on, for a board of so many cells
+abbrev pub range_result : ℕ → ℕ → ℕ → Result (Unit {0}) Refusal
+range_result size start count = cond (nat_le (start + count) size) (Ok tt) (Err OutOfRange)
 
 -- the fence question
 abbrev pub fence_result : Image → ℕ → ℕ → Result (Option ℕ) Refusal

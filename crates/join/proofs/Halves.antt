@@ -1,18 +1,16 @@
 -- What the two boards of a join answer for their parts of a range that lies in the join, and what the join answers by it.
-use Rattle.std.proofs.Common.{◌≡◌, ℕ, ◌+◌, ◌-◌, ◌<◌, ◌≤◌, min, Bool, true, false, leb, ◌⊎◌, List, ◌++◌, length, take, drop, is_some, Some, None, Ok, Err, Option, Result, sym, refl, ap, ◌∙◌, inl, inr, arith}
-use Rattle.std.proofs.lemmas.List.{length-map, length-take, length-drop, map-append}
-use Rattle.std.proofs.lemmas.Bool.Decides.{leb_tells}
-use Rattle.std.specs.Option.{option_map, option_or}
+use Rattle.std.proofs.Common.{◌≡◌, ℕ, ◌+◌, ◌-◌, ◌<◌, ◌≤◌, min, true, false, List, ◌++◌, length, take, drop, is_some, Some, None, Ok, Err, Option, Result, sym, refl, ap, ◌∙◌, arith}
+use Rattle.std.proofs.lemmas.List.{length-take, length-drop, map-append}
+use Rattle.std.specs.Option.{option_map, option_or, MatchOption, IsSomeAnd}
 use Rattle.datasheet.specs.declared.refusal.Refusal.{Refusal}
 use Rattle.datasheet.specs.declared.refusal.Refusal.TheVariants.{Fenced}
 use Rattle.image.specs.declared.Cell.{Cell}
 use Rattle.image.specs.Images.{Image, most, inside, part, bytes_of, fence_in, overwritten}
-use Rattle.image.specs.Results.{fence_result, read_result, read_into, unless_fenced, write_result, written, if_accepted}
-use Rattle.image.specs.Lent.{Lent, both}
+use Rattle.image.specs.Results.{range_result, fence_result, read_result, read_into, unless_fenced, write_result, written, if_accepted}
 use Rattle.image.specs.Layers.{joined}
-use Rattle.image.proofs.Cells.{inside-true}
+use Rattle.image.proofs.Cells.{accepted_by, refused_by, range-inside, option_mapped}
 use Rattle.join.specs.declared.Cut.{Cut}
-use Rattle.join.specs.Joins.{front_of, written_first, written_second, Cuts}
+use Rattle.join.specs.Joins.{front_of, cut_of, cut_result, written_first, written_second}
 use Rattle.join.proofs.Seams.{at_both, in_both, in-first, in-second, part_join, fence-join, fenced-below, written-min, join-overwritten}
 
 -- ## Accepted or refused
@@ -48,95 +46,111 @@ or-none : (o p : Option ℕ) → false ≡ is_some o → option_or o p ≡ p
 or-none None p e = refl
 or-none (Some x) p e = let z : ◌≡◌ {A = ℕ} 0 1 = cc in absurd (omega arith)
 
-none_is : (o : Option ℕ) → false ≡ is_some o → o ≡ None
-none_is None e = refl
-none_is (Some x) e = let z : ◌≡◌ {A = ℕ} 0 1 = cc in absurd (omega arith)
+-- a fence in neither, or in one
+none-told : (o p : Option ℕ) → false ≡ is_some (option_or o p) → (o ≡ None) × (p ≡ None)
+none-told None None e = (refl, refl)
+none-told None (Some x) e = absurd (cc)
+none-told (Some x) p e = absurd (cc)
 
-fenced-ahead : (o p : Option ℕ) → true ≡ is_some o → unless_fenced (option_or o p) ≡ Err Fenced
-fenced-ahead None p e = let z : ◌≡◌ {A = ℕ} 0 1 = cc in absurd (omega arith)
-fenced-ahead (Some x) p e = refl
-
-fenced-behind : (l : ℕ) (o p : Option ℕ) → true ≡ is_some p → unless_fenced (option_or o (option_map (λ (j : ℕ). l + j) p)) ≡ Err Fenced
-fenced-behind l None None e = let z : ◌≡◌ {A = ℕ} 0 1 = cc in absurd (omega arith)
-fenced-behind l None (Some x) e = refl
-fenced-behind l (Some y) p e = refl
+fence-refuses : (l : ℕ) (o p : Option ℕ) → true ≡ is_some (option_or o p) → unless_fenced (option_or o (option_map (λ (j : ℕ). l + j) p)) ≡ Err Fenced
+fence-refuses l None None e = absurd (cc)
+fence-refuses l None (Some x) e = refl
+fence-refuses l (Some y) p e = refl
 
 -- ## A range that lies in the join, where a' and b' are what the boards show when they are asked
 
 pub record Parts (a' b' a b : Image) (s n : ℕ) (cut : Cut) : Type 0 where
   first : a' ≡ a
   second : b' ≡ b
-  cuts : Cuts a b s n cut
   lies : inside (joined a b) s n ≡ true
+  seam : cut.seam ≡ length a
+  at : cut.front.start ≡ min s (length a)
+  front : cut.front.count ≡ front_of a s n
+  next : cut.back.start ≡ s - length a
+  back : cut.back.count ≡ n - (length a - s)
 
--- what `cut` tells
-abbrev pub Told : Image → Image → Image → Image → Lent → Lent → Lent → Lent → ℕ → ℕ → Cut → Type 0
-Told a' b' a b x' y' x y s n c =
-    record { cut : Cuts a b s n c; few : c.total ≤ most; first : a' ≡ a; second : b' ≡ b; lent_first : x' ≡ x; lent_second : y' ≡ y }
+-- what `cut` tells if the range was not refused by the size of the join, or was
+pub cut-done : {u : Unit {0}} {size seam at ahead : ℕ} (a b : Image) (s n : ℕ) → size ≡ length (joined a b) → Ok u ≡ range_result size s n →
+    seam ≡ length a → at ≡ min s seam → ahead ≡ min n (seam - at) →
+    Ok (record { seam = seam; front = record { start = at; count = ahead }; back = record { start = s - at; count = n - ahead } }) ≡ cut_result a b s n
+cut-done {u} {size} {seam} {at} {ahead} a b s n e told x y z =
+    let t = range-inside size s n told in
+    let y' : at ≡ min s (length a) = omega arith in
+    let z' : ahead ≡ front_of a s n = omega arith in
+    let v : s - at ≡ s - length a = omega arith in
+    let w : n - ahead ≡ n - (length a - s) = omega arith in
+    let same : ◌≡◌ {A = Cut} (record { seam = seam; front = record { start = at; count = ahead }; back = record { start = s - at; count = n - ahead } }) (cut_of a s n) =
+    (λ i. record { seam = x i; front = record { start = y' i; count = z' i }; back = record { start = v i; count = w i } }) in
+    ap Ok same ∙ rw (rw e at t)
 
-pub parts : {a' b' a b : Image} {x' y' x y : Lent} {s n : ℕ} {c : Cut} {r : Bool} → Told a' b' a b x' y' x y s n c → r ≡ leb (s + n) c.total → r ≡ true → Parts a' b' a b s n c
-parts k e t = record { first = k.first; second = k.second; cuts = k.cut; lies = inside-true _ _ _ k.cut.total e t }
+pub cut-refused : {x : Refusal} {size : ℕ} (a b : Image) (s n : ℕ) → size ≡ length (joined a b) → Err x ≡ range_result size s n → Err x ≡ cut_result a b s n
+cut-refused a b s n e told = let t = refused_by (inside (joined a b) s n) tt (rw e at told) in rw (t.0, t.1)
 
--- what a board tells that is asked for a fence
-abbrev pub Asked : Type 0 → Image → Image → Lent → Lent → Type 0
-Asked X a' a x' x = record { answer : X; same : a' ≡ a; lent : x' ≡ x }
+pub parts : {a' b' : Image} {cut : Cut} (a b : Image) (s n : ℕ) → Ok cut ≡ cut_result a b s n → a' ≡ a → b' ≡ b → Parts a' b' a b s n cut
+parts a b s n told p q =
+    let t = accepted_by (inside (joined a b) s n) told in
+    let e = t.1 in
+    record {
+      first = p;
+      second = q;
+      lies = t.0;
+      seam = ap (λ (c : Cut). c.seam) e;
+      at = ap (λ (c : Cut). c.front.start) e;
+      front = ap (λ (c : Cut). c.front.count) e;
+      next = ap (λ (c : Cut). c.back.start) e;
+      back = ap (λ (c : Cut). c.back.count) e;
+    }
 
-pub unasked : {a : Image} {x : Lent} → Asked (Unit {0}) a a x x
-unasked = record { answer = tt; same = refl; lent = refl }
+-- so it is with boards that show the same later
+later : {a'' b'' a' b' a b : Image} {s n : ℕ} {cut : Cut} → Parts a' b' a b s n cut → a'' ≡ a' → b'' ≡ b' → Parts a'' b'' a b s n cut
+later h e f =
+    record { first = e ∙ h.first; second = f ∙ h.second; lies = h.lies; seam = h.seam; at = h.at; front = h.front; next = h.next; back = h.back }
 
--- after that both show and hold the same, and so does the join
-pub kept : {X Y Z : Type 0} {a'' b'' a' b' a b : Image} {x'' y'' x' y' x y : Lent} {s n : ℕ} {c : Cut} →
-    Told a' b' a b x' y' x y s n c → Asked Y a'' a' x'' x' → Asked Z b'' b' y'' y' → X →
-    record { answer : X; same : joined a'' b'' ≡ joined a b; lent : both x'' y'' ≡ both x y; first : a'' ≡ a; second : b'' ≡ b }
-kept k e f answer =
-    let p = e.same ∙ k.first in
-    let q = f.same ∙ k.second in
-    record { answer = answer; same = at_both joined p q; lent = at_both both (e.lent ∙ k.lent_first) (f.lent ∙ k.lent_second); first = p; second = q }
+pub front_fits : {a' b' a b : Image} {s n : ℕ} {cut : Cut} → Parts a' b' a b s n cut → cut.front.count ≤ n
+front_fits h = let e = h.front in omega arith
 
 -- ## The fence question
 
 module _ {a' b' a b : Image} {s n : ℕ} {cut : Cut} (h : Parts a' b' a b s n cut) where
-  first-result : fence_result a' cut.at cut.front ≡ Ok (fence_in a (min s (length a)) (front_of a s n))
-  first-result = simp (h.first, h.cuts.at, h.cuts.front, in-first a s n)
+  first-result : fence_result a' cut.front.start cut.front.count ≡ Ok (fence_in a (min s (length a)) (front_of a s n))
+  first-result = simp (h.first, h.at, h.front, in-first a s n)
 
-  second-result : fence_result b' cut.next cut.back ≡ Ok (fence_in b (s - length a) (n - (length a - s)))
-  second-result = simp (h.second, h.cuts.next, h.cuts.back, in-second a b s n h.lies)
+  second-result : fence_result b' cut.back.start cut.back.count ≡ Ok (fence_in b (s - length a) (n - (length a - s)))
+  second-result = simp (h.second, h.next, h.back, in-second a b s n h.lies)
 
-  -- neither board refuses
-  pub first-told : {x : Refusal} → Err x ≡ fence_result a' cut.at cut.front → ⊥
-  first-told e = never (e ∙ first-result)
-
-  pub second-told : {x : Refusal} → Err x ≡ fence_result b' cut.next cut.back → ⊥
+  -- the second board does not refuse
+  pub second-told : {x : Refusal} → Err x ≡ fence_result b' cut.back.start cut.back.count → ⊥
   second-told e = never (e ∙ second-result)
 
   -- a fence in the front answers for the range
-  pub fence-ahead : {o : Option ℕ} → Ok o ≡ fence_result a' cut.at cut.front → true ≡ is_some o → Ok o ≡ fence_result (joined a b) s n
+  pub fence-ahead : {o : Option ℕ} → Ok o ≡ fence_result a' cut.front.start cut.front.count → true ≡ is_some o → Ok o ≡ fence_result (joined a b) s n
   fence-ahead {o} x some =
       let m = option_map (λ (j : ℕ). length a + j) (fence_in b (s - length a) (n - (length a - s))) in
       fence-inside (joined a b) s n o h.lies (sym (fence-join a b s n h.lies ∙ ap (λ (v : Option ℕ). option_or v m) (sym (ok-is (x ∙ first-result))) ∙ or_some o m some))
 
   -- the first fence by what both boards answer
-  fence-said : {o r : Option ℕ} → Ok o ≡ fence_result a' cut.at cut.front → Ok r ≡ fence_result b' cut.next cut.back →
+  fence-said : {o r : Option ℕ} → Ok o ≡ fence_result a' cut.front.start cut.front.count → Ok r ≡ fence_result b' cut.back.start cut.back.count →
       fence_in (joined a b) s n ≡ option_or o (option_map (λ (j : ℕ). length a + j) r)
   fence-said x y =
       fence-join a b s n h.lies
       ∙ at_both (λ (v w : Option ℕ). option_or v (option_map (λ (j : ℕ). length a + j) w)) (sym (ok-is (x ∙ first-result))) (sym (ok-is (y ∙ second-result)))
 
-  -- without a fence in the front the back answers
-  pub fence-behind : {o r' r : Option ℕ} → Ok o ≡ fence_result a' cut.at cut.front → false ≡ is_some o →
-      Ok r' ≡ fence_result b' cut.next cut.back → r' ≡ r → Ok (option_map (λ (j : ℕ). cut.seam + j) r) ≡ fence_result (joined a b) s n
-  fence-behind {o} {r'} {r} x none y is =
-      let m = option_map (λ (j : ℕ). length a + j) r in
-      let e = fence-said x (ap Ok (sym is) ∙ y) ∙ or-none o m none in
-      fence-inside (joined a b) s n (option_map (λ (j : ℕ). cut.seam + j) r) h.lies (ap (λ (l : ℕ). option_map (λ (j : ℕ). l + j) r) h.cuts.seam ∙ sym e)
+  -- without a fence in the front the back answers, with the seam added to its place
+  pub fence-behind : {o r here : Option ℕ} (P : ℕ → ℕ → Type 0) → ((place at : ℕ) → P place at → at ≡ cut.seam + place) →
+      Ok o ≡ fence_result a' cut.front.start cut.front.count → false ≡ is_some o → Ok r ≡ fence_result b' cut.back.start cut.back.count →
+      MatchOption r (here ≡ None) (λ place. IsSomeAnd here (P place)) → Ok here ≡ fence_result (joined a b) s n
+  fence-behind {o} {r} {here} P f x none y m =
+      let e = fence-said x y ∙ or-none o (option_map (λ (j : ℕ). length a + j) r) none in
+      fence-inside (joined a b) s n here h.lies
+      (option_mapped P (λ (j : ℕ). cut.seam + j) r here f m ∙ ap (λ (l : ℕ). option_map (λ (j : ℕ). l + j) r) h.seam ∙ sym e)
 
   -- a place of the second board lies in the join
-  pub place-few : {r : Option ℕ} {at : ℕ} → r ≡ Some at → Ok r ≡ fence_result b' cut.next cut.back → cut.seam + at < most
-  place-few {r} {at} is y =
+  pub place-few : {r : Option ℕ} → Ok r ≡ fence_result b' cut.back.start cut.back.count → (at : ℕ) → r ≡ Some at → cut.seam + at < most
+  place-few y at is =
       let e = fenced-below (s - length a) (part b (s - length a) (n - (length a - s))) at (sym (ok-is (y ∙ second-result)) ∙ is) in
       let l : length (part b (s - length a) (n - (length a - s))) ≤ n - (length a - s) = simp length-take (omega arith) in
       let i = (in_both a b s n h.lies).0 in
-      let m = h.cuts.seam in
+      let m = h.seam in
       omega arith
 
 -- ## A read into a buffer
@@ -144,47 +158,30 @@ module _ {a' b' a b : Image} {s n : ℕ} {cut : Cut} (h : Parts a' b' a b s n cu
 filled : (i : Image) (s n : ℕ) (buffer : List ℕ) → length buffer ≡ n → inside i s n ≡ true → read_into i s buffer ≡ bytes_of (part i s n)
 filled i s n buffer e t = simp (e, t)
 
-length-filled : (i : Image) (s : ℕ) (buffer : List ℕ) → length (read_into i s buffer) ≡ length buffer
-length-filled i s buffer =
-    elim (leb_tells (s + length buffer) (length i)) [
-      | inl p ↦ ap length (filled i s (length buffer) buffer refl p.0) ∙ simp (length-map, length-take, length-drop) (let h = p.1 in omega arith)
-      | inr p ↦ simp p.0
-    ]
+module _ {a' b' a b : Image} {s : ℕ} {cut : Cut} (bs : List ℕ) (h : Parts a' b' a b s (length bs) cut) where
+  length_front : length (take cut.front.count bs) ≡ front_of a s (length bs)
+  length_front = let f = h.front in simp length-take (omega arith)
 
-module _ {a' b' a b : Image} {s : ℕ} {cut : Cut} (buffer : List ℕ) (h : Parts a' b' a b s (length buffer) cut) where
-  length_front : length (take cut.front buffer) ≡ front_of a s (length buffer)
-  length_front = let f = h.cuts.front in simp length-take (omega arith)
+  length_back : length (drop cut.front.count bs) ≡ length bs - (length a - s)
+  length_back = let f = h.front in simp length-drop (omega arith)
 
-  length_back : length (drop cut.front buffer) ≡ length buffer - (length a - s)
-  length_back = let f = h.cuts.front in simp length-drop (omega arith)
-
-  -- neither board refuses
-  pub first_reads : {x : Refusal} → Err x ≡ read_result a' cut.at (length (take cut.front buffer)) → ⊥
-  first_reads e =
-      let i : inside a' cut.at (length (take cut.front buffer)) ≡ true = simp (h.first, h.cuts.at, length_front, in-first a s (length buffer)) in
-      never (e ∙ read-inside a' cut.at (length (take cut.front buffer)) i)
-
-  pub second_reads : {r : Result (Unit {0}) Refusal} {x : List ℕ} → x ≡ drop cut.front buffer → r ≡ read_result b' cut.next (length x) → r ≡ read_result (joined a b) s (length buffer)
-  second_reads {r} {x} e f =
-      let i : inside b' cut.next (length x) ≡ true = simp (e, h.second, h.cuts.next, length_back, in-second a b s (length buffer) h.lies) in
-      f ∙ read-inside b' cut.next (length x) i ∙ sym (read-inside (joined a b) s (length buffer) h.lies)
-
-  -- what the first board fills
-  pub length-read : {head : List ℕ} → head ≡ read_into a' cut.at (take cut.front buffer) → length head ≡ cut.front
-  length-read e = ap length e ∙ length-filled a' cut.at (take cut.front buffer) ∙ length_front ∙ sym h.cuts.front
+module _ {a' b' a b : Image} {s : ℕ} {cut : Cut} {front back : List ℕ} (buffer : List ℕ) (h : Parts a' b' a b s (length buffer) cut)
+    (f : front ≡ take cut.front.count buffer) (k : back ≡ drop cut.front.count buffer) where
+  -- the second board does not refuse
+  pub read_answered : read_result b' cut.back.start (length back) ≡ read_result (joined a b) s (length buffer)
+  read_answered =
+      let i : inside b' cut.back.start (length back) ≡ true = simp (k, h.second, h.next, length_back buffer h, in-second a b s (length buffer) h.lies) in
+      read-inside b' cut.back.start (length back) i ∙ sym (read-inside (joined a b) s (length buffer) h.lies)
 
   -- both parts of the buffer
-  pub read_join : {head tail x : List ℕ} → x ≡ drop cut.front buffer → head ≡ read_into a' cut.at (take cut.front buffer) → tail ≡ read_into b' cut.next x →
-      head ++ tail ≡ read_into (joined a b) s buffer
-  read_join lent e f =
+  pub read_join : {head tail : List ℕ} → head ≡ read_into a' cut.front.start front → tail ≡ read_into b' cut.back.start back → head ++ tail ≡ read_into (joined a b) s buffer
+  read_join p q =
       let n = length buffer in
-      let u : read_into a' cut.at (take cut.front buffer) ≡ bytes_of (part a (min s (length a)) (front_of a s n)) =
-      at_both (λ (i : Image) (l : ℕ). read_into i l (take cut.front buffer)) h.first h.cuts.at
-      ∙ filled a (min s (length a)) (front_of a s n) (take cut.front buffer) length_front (in-first a s n) in
-      let v : read_into b' cut.next (drop cut.front buffer) ≡ bytes_of (part b (s - length a) (n - (length a - s))) =
-      at_both (λ (i : Image) (l : ℕ). read_into i l (drop cut.front buffer)) h.second h.cuts.next
-      ∙ filled b (s - length a) (n - (length a - s)) (drop cut.front buffer) length_back (in-second a b s n h.lies) in
-      at_both (λ (x y : List ℕ). x ++ y) (e ∙ u) (f ∙ ap (read_into b' cut.next) lent ∙ v)
+      let u : read_into a' cut.front.start front ≡ bytes_of (part a (min s (length a)) (front_of a s n)) =
+      rw (f, h.first, h.at) (filled a (min s (length a)) (front_of a s n) (take cut.front.count buffer) (length_front buffer h) (in-first a s n)) in
+      let v : read_into b' cut.back.start back ≡ bytes_of (part b (s - length a) (n - (length a - s))) =
+      rw (k, h.second, h.next) (filled b (s - length a) (n - (length a - s)) (drop cut.front.count buffer) (length_back buffer h) (in-second a b s n h.lies)) in
+      at_both (λ (x y : List ℕ). x ++ y) (p ∙ u) (q ∙ v)
       ∙ sym (filled (joined a b) s n buffer refl h.lies ∙ ap bytes_of (part_join a b s n (in_both a b s n h.lies).0) ∙ map-append (λ (c : Cell). c.byte) (part a (min s (length a)) (front_of a s n)) (part b (s - length a) (n - (length a - s))))
 
 -- ## A write of bytes
@@ -196,90 +193,71 @@ pub record Free (a' b' a b : Image) (s n : ℕ) (cut : Cut) : Type 0 where
   behind : fence_in b (s - length a) (n - (length a - s)) ≡ None
 
 -- such is one of which neither board told a fence, where a'' and b'' are what they show after that
-pub free : {X Y : Type 0} {a'' b'' a' b' a b : Image} {x' y' x y : Lent} {s n : ℕ} {cut : Cut} {o r : Option ℕ} → Parts a' b' a b s n cut → Asked X a'' a' x' x → Asked Y b'' b' y' y →
-    Ok o ≡ fence_result a' cut.at cut.front → false ≡ is_some o → Ok r ≡ fence_result b' cut.next cut.back → false ≡ is_some r → Free a'' b'' a b s n cut
-free h e f x ahead y behind =
+pub free : {a'' b'' a' b' a b : Image} {s n : ℕ} {cut : Cut} {o r : Option ℕ} → Parts a' b' a b s n cut → a'' ≡ a' → b'' ≡ b' →
+    Ok o ≡ fence_result a' cut.front.start cut.front.count → Ok r ≡ fence_result b' cut.back.start cut.back.count → false ≡ is_some (option_or o r) → Free a'' b'' a b s n cut
+free h e f x y none =
+    let nones = none-told _ _ none in
     record {
-      parts = record { first = e.same ∙ h.first; second = f.same ∙ h.second; cuts = h.cuts; lies = h.lies };
-      ahead = sym (ok-is (x ∙ first-result h)) ∙ none_is _ ahead;
-      behind = sym (ok-is (y ∙ second-result h)) ∙ none_is _ behind;
+      parts = later h e f;
+      ahead = sym (ok-is (x ∙ first-result h)) ∙ nones.0;
+      behind = sym (ok-is (y ∙ second-result h)) ∙ nones.1;
     }
 
-module _ {a' b' a b : Image} {s : ℕ} {cut : Cut} (bs : List ℕ) (h : Free a' b' a b s (length bs) cut) where
-  first-put : write_result a' cut.at (take cut.front bs) ≡ Ok tt
+module _ {a' b' a b : Image} {s : ℕ} {cut : Cut} {front back : List ℕ} (bs : List ℕ) (h : Free a' b' a b s (length bs) cut)
+    (f : front ≡ take cut.front.count bs) (k : back ≡ drop cut.front.count bs) where
+  first-put : write_result a' cut.front.start front ≡ Ok tt
   first-put =
-      at_both (λ (i : Image) (l : ℕ). write_result i l (take cut.front bs)) h.parts.first h.parts.cuts.at
-      ∙ write-inside a (min s (length a)) (front_of a s (length bs)) (take cut.front bs) (length_front bs h.parts) (in-first a s (length bs)) h.ahead
+      rw (f, h.parts.first, h.parts.at)
+      (write-inside a (min s (length a)) (front_of a s (length bs)) (take cut.front.count bs) (length_front bs h.parts) (in-first a s (length bs)) h.ahead)
 
-  second-put : write_result b' cut.next (drop cut.front bs) ≡ Ok tt
+  second-put : write_result b' cut.back.start back ≡ Ok tt
   second-put =
-      at_both (λ (i : Image) (l : ℕ). write_result i l (drop cut.front bs)) h.parts.second h.parts.cuts.next
-      ∙ write-inside b (s - length a) (length bs - (length a - s)) (drop cut.front bs) (length_back bs h.parts) (in-second a b s (length bs) h.parts.lies) h.behind
+      rw (k, h.parts.second, h.parts.next)
+      (write-inside b (s - length a) (length bs - (length a - s)) (drop cut.front.count bs) (length_back bs h.parts) (in-second a b s (length bs) h.parts.lies) h.behind)
 
   both-put : write_result (joined a b) s bs ≡ Ok tt
   both-put =
       write-inside (joined a b) s (length bs) bs refl h.parts.lies
       (fence-join a b s (length bs) h.parts.lies ∙ at_both (λ (v w : Option ℕ). option_or v (option_map (λ (j : ℕ). length a + j) w)) h.ahead h.behind)
 
-  -- neither board refuses
-  pub first-writes : {x : Refusal} → Err x ≡ write_result a' cut.at (take cut.front bs) → ⊥
-  first-writes e = never (e ∙ first-put)
-
-  pub second-writes : {r : Result (Unit {0}) Refusal} {x : List ℕ} → x ≡ drop cut.front bs → r ≡ write_result b' cut.next x → r ≡ write_result (joined a b) s bs
-  second-writes e r-is = r-is ∙ ap (write_result b' cut.next) e ∙ second-put ∙ sym both-put
+  -- the second board does not refuse
+  pub write_answered : write_result b' cut.back.start back ≡ write_result (joined a b) s bs
+  write_answered = second-put ∙ sym both-put
 
   -- each board is left as the join's write says
-  pub first-written : {i : Image} → i ≡ written a' cut.at (take cut.front bs) → i ≡ written_first a b s bs
+  pub first-written : {i : Image} → i ≡ written a' cut.front.start front → i ≡ written_first a b s bs
   first-written i-is =
       i-is
-      ∙ accepted (overwritten a' cut.at (take cut.front bs)) a' first-put
-      ∙ at_both (λ (i : Image) (l : ℕ). overwritten i l (take cut.front bs)) h.parts.first h.parts.cuts.at
-      ∙ written-min a s (take cut.front bs)
-      ∙ ap (λ (l : ℕ). overwritten a s (take l bs)) h.parts.cuts.front
+      ∙ accepted (overwritten a' cut.front.start front) a' first-put
+      ∙ rw (f, h.parts.first, h.parts.at, h.parts.front) (written-min a s (take (front_of a s (length bs)) bs))
       ∙ sym (accepted (overwritten a s (take (front_of a s (length bs)) bs)) a both-put)
 
-  pub second-written : {i : Image} {x : List ℕ} → x ≡ drop cut.front bs → i ≡ written b' cut.next x → i ≡ written_second a b s bs
-  second-written e i-is =
+  pub second-written : {i : Image} → i ≡ written b' cut.back.start back → i ≡ written_second a b s bs
+  second-written i-is =
       i-is
-      ∙ ap (written b' cut.next) e
-      ∙ accepted (overwritten b' cut.next (drop cut.front bs)) b' second-put
-      ∙ at_both (λ (i : Image) (l : ℕ). overwritten i l (drop cut.front bs)) h.parts.second h.parts.cuts.next
-      ∙ ap (λ (l : ℕ). overwritten b (s - length a) (drop l bs)) h.parts.cuts.front
+      ∙ accepted (overwritten b' cut.back.start back) b' second-put
+      ∙ rw (k, h.parts.second, h.parts.next, h.parts.front) refl
       ∙ sym (accepted (overwritten b (s - length a) (drop (front_of a s (length bs)) bs)) b both-put)
 
--- a fence in either part refuses the write
-pub write-refused : {a' b' a b : Image} {s : ℕ} {cut : Cut} {o r : Option ℕ} (bs : List ℕ) → Parts a' b' a b s (length bs) cut →
-    Ok o ≡ fence_result a' cut.at cut.front → Ok r ≡ fence_result b' cut.next cut.back → (true ≡ is_some o) ⊎ (true ≡ is_some r) →
-    write_result (joined a b) s bs ≡ Err Fenced
-write-refused {a = a} {b = b} {s = s} {o = o} {r = r} bs h x y some =
-    let e : unless_fenced (option_or o (option_map (λ (j : ℕ). length a + j) r)) ≡ Err Fenced =
-    elim some [
-      | inl e ↦ fenced-ahead o (option_map (λ (j : ℕ). length a + j) r) e
-      | inr e ↦ fenced-behind (length a) o r e
-    ] in
-    let m : write_result (joined a b) s bs ≡ unless_fenced (fence_in (joined a b) s (length bs)) = simp h.lies in
-    m ∙ ap unless_fenced (fence-said h x y) ∙ e
+-- a fence in either part refuses the write, and both boards are left
+module _ {a' b' a b : Image} {s : ℕ} {cut : Cut} {o r : Option ℕ} (bs : List ℕ) (h : Parts a' b' a b s (length bs) cut)
+    (x : Ok o ≡ fence_result a' cut.front.start cut.front.count) (y : Ok r ≡ fence_result b' cut.back.start cut.back.count) (some : true ≡ is_some (option_or o r)) where
+  pub write-refused : write_result (joined a b) s bs ≡ Err Fenced
+  write-refused =
+      let m : write_result (joined a b) s bs ≡ unless_fenced (fence_in (joined a b) s (length bs)) = simp h.lies in
+      m ∙ ap unless_fenced (fence-said h x y) ∙ fence-refuses (length a) o r some
 
--- and leaves both boards
-pub first-left : {a' b' a b : Image} {s : ℕ} {cut : Cut} (bs : List ℕ) → Parts a' b' a b s (length bs) cut → write_result (joined a b) s bs ≡ Err Fenced → a' ≡ written_first a b s bs
-first-left bs h e = h.first ∙ sym (refused _ _ e)
+  pub first-left : a' ≡ written_first a b s bs
+  first-left = h.first ∙ sym (refused _ _ write-refused)
 
-pub second-left : {a' b' a b : Image} {s : ℕ} {cut : Cut} (bs : List ℕ) → Parts a' b' a b s (length bs) cut → write_result (joined a b) s bs ≡ Err Fenced → b' ≡ written_second a b s bs
-second-left bs h e = h.second ∙ sym (refused _ _ e)
+  pub second-left : b' ≡ written_second a b s bs
+  second-left = h.second ∙ sym (refused _ _ write-refused)
 
 -- what a write leaves in both is what it leaves in the join
-either_way : (r : Result (Unit {0}) Refusal) (x y z a b : Image) → joined x y ≡ z → joined (if_accepted r x a) (if_accepted r y b) ≡ if_accepted r z (joined a b)
-either_way (Ok u) x y z a b e = e
-either_way (Err r) x y z a b e = refl
-
-pub wrote : {X : Type 0} {a'' b'' a' b' a b : Image} {x' y' x y : Lent} {s : ℕ} {cut : Cut} (bs : List ℕ) → Parts a' b' a b s (length bs) cut →
-    X → a'' ≡ written_first a b s bs → b'' ≡ written_second a b s bs → x' ≡ x → y' ≡ y →
-    record { answer : X; after : joined a'' b'' ≡ written (joined a b) s bs; lent : both x' y' ≡ both x y; first : a'' ≡ written_first a b s bs; second : b'' ≡ written_second a b s bs }
-wrote {a = a} {b = b} {s = s} bs h answer p q u v =
-    record {
-      answer = answer;
-      after = at_both joined p q ∙ either_way (write_result (joined a b) s bs) _ _ _ a b (join-overwritten a b s bs);
-      lent = at_both both u v;
-      first = p;
-      second = q;
-    }
+pub both-written : {a'' b'' : Image} (a b : Image) (s : ℕ) (bs : List ℕ) → a'' ≡ written_first a b s bs → b'' ≡ written_second a b s bs → joined a'' b'' ≡ written (joined a b) s bs
+both-written a b s bs p q =
+    at_both joined p q ∙ go (write_result (joined a b) s bs) _ _ _ (join-overwritten a b s bs)
+  where
+    go : (r : Result (Unit {0}) Refusal) (x y z : Image) → joined x y ≡ z → joined (if_accepted r x a) (if_accepted r y b) ≡ if_accepted r z (joined a b)
+    go (Ok u) x y z e = e
+    go (Err r) x y z e = refl

@@ -1,7 +1,7 @@
 -- Two lists and two images, one after the other: what a range of both is in each, and what bytes put into both leave.
 use Rattle.std.proofs.Common.{◌≡◌, ℕ, zero, suc, ◌+◌, ◌-◌, ◌<◌, ◌≤◌, min, true, false, cond, List, [], ◌∷◌, ◌++◌, length, take, drop, Some, Option, sym, refl, ap, ◌∙◌, inl, inr, add-zero, arith, le-leb, leb-true}
 use native.Mathlib.Nat.{zero-sub, sub-zero}
-use Rattle.std.proofs.lemmas.List.{append-nil, length-take, length-drop, length-append, take_at, take_rest, drop_at, drop_all}
+use Rattle.std.proofs.lemmas.List.{length-take, length-drop, length-append}
 use Rattle.std.proofs.lemmas.Bool.Decides.{leb_tells}
 use Rattle.std.specs.Option.{option_map, option_or}
 use Rattle.image.specs.declared.Cell.{Cell}
@@ -61,20 +61,6 @@ part_join a b s n h =
     ∙ take-join n (drop s a) (drop (s - length a) b)
     ∙ ap (λ (k : ℕ). part a s n ++ take (n - k) (drop (s - length a) b)) (length-drop s a)
     ∙ ap (λ (t : List Cell). t ++ part b (s - length a) (n - (length a - s))) (sym (front-part a s n))
-
--- ## A buffer
-
--- the back of a buffer whose front has been filled, and the buffer with its back put in
-pub back-lent : (xs zs : List ℕ) (n : ℕ) → length xs ≡ n → take (length (xs ++ zs) - n) (drop n (xs ++ zs)) ≡ zs
-back-lent xs zs n e = take_rest (xs ++ zs) n ∙ drop_at xs zs n e
-
-pub back-put : (xs ys zs : List ℕ) (n : ℕ) → length xs ≡ n → take n (xs ++ zs) ++ (ys ++ drop (length (xs ++ zs) - n) (drop n (xs ++ zs))) ≡ xs ++ ys
-back-put xs ys zs n e =
-    let d : drop (length (xs ++ zs) - n) (drop n (xs ++ zs)) ≡ [] =
-    drop_all (length (xs ++ zs) - n) (drop n (xs ++ zs)) (simp length-drop (omega arith)) in
-    ap (λ (l : List ℕ). l ++ (ys ++ drop (length (xs ++ zs) - n) (drop n (xs ++ zs)))) (take_at xs zs n e)
-    ∙ ap (λ (l : List ℕ). xs ++ (ys ++ l)) d
-    ∙ ap (λ (l : List ℕ). xs ++ l) (append-nil ys)
 
 -- ## The fence question
 

@@ -1,6 +1,8 @@
 -- What a join shows of the two boards below, and what a write to it leaves in each.
-use Rattle.std.specs.Prelude.{◌≡◌, ℕ, ◌-◌, min, List, length, take, drop}
-use Rattle.image.specs.Images.{Image, overwritten}
+use Rattle.std.specs.Prelude.{ℕ, ◌-◌, min, cond, List, length, take, drop, Ok, Err, Result}
+use Rattle.datasheet.specs.declared.refusal.Refusal.{Refusal}
+use Rattle.datasheet.specs.declared.refusal.Refusal.TheVariants.{OutOfRange}
+use Rattle.image.specs.Images.{Image, inside, overwritten}
 use Rattle.image.specs.Results.{write_result, if_accepted}
 use Rattle.image.specs.Layers.{joined}
 use Rattle.join.specs.declared.Join.{Join}
@@ -23,11 +25,14 @@ abbrev pub written_second : Image → Image → ℕ → List ℕ → Image
 written_second a b start bytes =
     if_accepted (write_result (joined a b) start bytes) (overwritten b (start - length a) (drop (front_of a start (length bytes)) bytes)) b
 
--- where a range lies in the two boards
-pub record Cuts (a b : Image) (start count : ℕ) (c : Cut) : Type 0 where
-  pub total : c.total ≡ length (joined a b)
-  pub seam : c.seam ≡ length a
-  pub at : c.at ≡ min start (length a)
-  pub front : c.front ≡ front_of a start count
-  pub next : c.next ≡ start - length a
-  pub back : c.back ≡ count - (length a - start)
+-- where a range of the join lies in the two boards: the size of the first, and its parts in the first and in the second
+abbrev pub cut_of : Image → ℕ → ℕ → Cut
+cut_of a start count = record {
+  seam = length a;
+  front = record { start = min start (length a); count = front_of a start count };
+  back = record { start = start - length a; count = count - (length a - start) };
+}
+
+-- that, or refused by 4 if the range does not lie in the join
+abbrev pub cut_result : Image → Image → ℕ → ℕ → Result Cut Refusal
+cut_result a b start count = cond (inside (joined a b) start count) (Ok (cut_of a start count)) (Err OutOfRange)

@@ -5,10 +5,11 @@ ghost use Rattle.std.specs.Prelude.{◌≡◌, ◌≤◌, length};
 ghost use Rattle.image.specs.Images.{most};
 ghost use Rattle.image.specs.Results.{fence_result, read_result, read_into, write_result, written};
 ghost use Rattle.image.specs.Lent.{both};
-ghost use Rattle.join.specs.Joins.{join_image, Cuts, written_first, written_second};
+ghost use Rattle.join.specs.Joins.{join_image, cut_result, written_first, written_second};
 
-use board::{Board, MOST, within};
+use board::{Board, MOST, check_range};
 use datasheet::Refusal;
+use image::Range;
 
 // The cells of two boards in order, cut at 1,048,576.
 #[derive(Drop)]
@@ -17,16 +18,12 @@ pub struct Join<A, B> {
     second: B,
 }
 
-// Where a range lies in the two boards: the size of the join and of the first board; where the range begins in the first
-// board and how many of its places lie there; and the same of the second.
-#[derive(Clone, Copy, Drop)]
+// Where a range lies in the two boards: how many cells the first has, and the range's part in each, by that board's places.
+#[derive(Clone, Copy)]
 struct Cut {
-    total: usize,
     seam: usize,
-    at: usize,
-    front: usize,
-    next: usize,
-    back: usize,
+    front: Range,
+    back: Range,
 }
 
 impl<A: Board, B: Board> Join<A, B> {
@@ -38,27 +35,29 @@ impl<A: Board, B: Board> Join<A, B> {
         Join { first, second }
     }
 
-    // Where `count` places from `start` on lie in the two boards.
-    fn cut(&mut self, start: usize, count: usize) -> Cut
-        ensures cut { Cuts (A.Board.image self.old.first) (B.Board.image self.old.second) start count result }
-        ensures few { result.total ≤ most }
+    // Where `count` places from `start` on lie in the two boards, if they lie in the join.
+    fn cut(&mut self, start: usize, count: usize) -> Result<Cut, Refusal>
+        ensures cut { result ≡ cut_result (A.Board.image self.old.first) (B.Board.image self.old.second) start count }
         ensures first { A.Board.image self.new.first ≡ A.Board.image self.old.first }
         ensures second { B.Board.image self.new.second ≡ B.Board.image self.old.second }
         ensures lent_first { A.Board.lent self.new.first ≡ A.Board.lent self.old.first }
         ensures lent_second { B.Board.lent self.new.second ≡ B.Board.lent self.old.second }
     {
         let seam = self.first.size();
-        let rest = self.second.size();
+        check_range(start, count, MOST.min(seam + self.second.size()))?;
         let at = start.min(seam);
-        let front = count.min(seam - at);
-        Cut {
-            total: MOST.min(seam + rest),
+        let ahead = count.min(seam - at);
+        Ok(Cut {
             seam,
-            at,
-            front,
-            next: start - at,
-            back: count - front,
-        }
+            front: Range {
+                start: at,
+                count: ahead,
+            },
+            back: Range {
+                start: start - at,
+                count: count - ahead,
+            },
+        })
     }
 }
 
@@ -75,7 +74,7 @@ impl<A: Board, B: Board> Board for Join<A, B> {
         ensures first { A.Board.image self.new.first ≡ A.Board.image self.old.first }
         ensures second { B.Board.image self.new.second ≡ B.Board.image self.old.second }
     {
-        self.cut(0, 0).total
+        MOST.min(self.first.size() + self.second.size())
     }
 
     fn first_fence(&mut self, start: usize, count: usize) -> Result<Option<usize>, Refusal>
@@ -85,18 +84,14 @@ impl<A: Board, B: Board> Board for Join<A, B> {
         ensures first { A.Board.image self.new.first ≡ A.Board.image self.old.first }
         ensures second { B.Board.image self.new.second ≡ B.Board.image self.old.second }
     {
-        let cut = self.cut(start, count);
-        if !within(start, count, cut.total) {
-            return Err(Refusal::OutOfRange);
-        }
-        let ahead = self.first.first_fence(cut.at, cut.front)?;
+        let cut = self.cut(start, count)?;
+        let ahead = self.first.first_fence(cut.front.start, cut.front.count)?;
+        // The second board is asked only where the first has no fence.
         if ahead.is_some() {
             return Ok(ahead);
         }
-        match self.second.first_fence(cut.next, cut.back)? {
-            Some(place) => Ok(Some(cut.seam + place)),
-            None => Ok(None),
-        }
+        let behind = self.second.first_fence(cut.back.start, cut.back.count)?;
+        Ok(behind.map(|place| cut.seam + place))
     }
 
     fn read(&mut self, start: usize, buffer: &mut [u8]) -> Result<(), Refusal>
@@ -107,14 +102,10 @@ impl<A: Board, B: Board> Board for Join<A, B> {
         ensures first { A.Board.image self.new.first ≡ A.Board.image self.old.first }
         ensures second { B.Board.image self.new.second ≡ B.Board.image self.old.second }
     {
-        let count = buffer.len();
-        let cut = self.cut(start, count);
-        if !within(start, count, cut.total) {
-            return Err(Refusal::OutOfRange);
-        }
-        let front = cut.front;
-        self.first.read(cut.at, &mut buffer[..front])?;
-        self.second.read(cut.next, &mut buffer[front..])
+        let cut = self.cut(start, buffer.len())?;
+        let (front, back) = buffer.split_at_mut(cut.front.count);
+        self.first.read(cut.front.start, front)?;
+        self.second.read(cut.back.start, back)
     }
 
     fn write(&mut self, start: usize, bytes: &[u8]) -> Result<(), Refusal>
@@ -124,19 +115,15 @@ impl<A: Board, B: Board> Board for Join<A, B> {
         ensures first { A.Board.image self.new.first ≡ written_first (A.Board.image self.old.first) (B.Board.image self.old.second) start bytes.now }
         ensures second { B.Board.image self.new.second ≡ written_second (A.Board.image self.old.first) (B.Board.image self.old.second) start bytes.now }
     {
-        let count = bytes.len();
-        let cut = self.cut(start, count);
-        if !within(start, count, cut.total) {
-            return Err(Refusal::OutOfRange);
-        }
+        let cut = self.cut(start, bytes.len())?;
         // Both boards are asked before either is written.
-        let ahead = self.first.first_fence(cut.at, cut.front)?;
-        let behind = self.second.first_fence(cut.next, cut.back)?;
-        if ahead.is_some() || behind.is_some() {
+        let ahead = self.first.first_fence(cut.front.start, cut.front.count)?;
+        let behind = self.second.first_fence(cut.back.start, cut.back.count)?;
+        if ahead.or(behind).is_some() {
             return Err(Refusal::Fenced);
         }
-        let front = cut.front;
-        self.first.write(cut.at, &bytes[..front])?;
-        self.second.write(cut.next, &bytes[front..])
+        let (front, back) = bytes.split_at(cut.front.count);
+        self.first.write(cut.front.start, front)?;
+        self.second.write(cut.back.start, back)
     }
 }

@@ -2,13 +2,16 @@
 use Rattle.std.proofs.Common.{◌≡◌, ℕ, zero, suc, ◌+◌, ◌≤◌, Bool, true, false, cond, ◌||◌, leb, List, [], ◌∷◌, length, take, drop, is_some, Some, None, Ok, Err, Option, Result, sym, refl, ap, ◌∙◌, add-zero, arith, leb-true}
 use Rattle.std.proofs.lemmas.List.{length-take, length-drop}
 use Rattle.datasheet.specs.declared.refusal.Refusal.{Refusal}
-use Rattle.datasheet.specs.declared.refusal.Refusal.TheVariants.{OutOfRange, Fenced}
+use Rattle.datasheet.specs.declared.refusal.Refusal.TheVariants.{Fenced}
 use Rattle.image.specs.declared.Cell.{Cell}
 use Rattle.image.specs.declared.Range.{Range}
 use Rattle.image.specs.Images.{Image, inside, part, bytes_of, first_fenced, fence_in, overlaid, overwritten}
 use Rattle.image.specs.Results.{fence_result, read_result, read_into, unless_fenced, write_result, if_accepted, written}
 use Rattle.image.specs.Layers.{covered, shielded_from, shielded}
+use Rattle.image.proofs.Cells.{accepted_by, refused_by}
 use Rattle.shield.specs.Shields.{first_covered, earlier}
+use Rattle.shield.proofs.Tables.{cover-late, earlier-step}
+use Rattle.std.proofs.Math.Bool.{or_comm}
 
 module _ (rs : List Range) where
   -- ## Lists
@@ -57,38 +60,12 @@ module _ (rs : List Range) where
       go true e h = let z : at ≡ f = cc in omega arith
       go false e h = let k = h e in omega arith
 
-  cover-late : (n at f : ℕ) → first_covered rs at n ≡ Some f → at ≤ f
-  cover-late zero at f e = let z : ◌≡◌ {A = ℕ} 0 1 = cc in absurd (omega arith)
-  cover-late (suc n) at f e = go (covered rs at) e (cover-late n (at + 1) f)
-    where
-      go : (b : Bool) → cond b (Some at) (first_covered rs (at + 1) n) ≡ Some f → (first_covered rs (at + 1) n ≡ Some f → at + 1 ≤ f) → at ≤ f
-      go true e h = let z : at ≡ f = cc in omega arith
-      go false e h = let k = h e in omega arith
-
-  early-left : (at : ℕ) (o : Option ℕ) → ((f : ℕ) → o ≡ Some f → at ≤ f) → earlier (Some at) o ≡ Some at
-  early-left at None h = refl
-  early-left at (Some f) h = let g = h f refl in ap Some (omega arith)
-
-  early-right : (at : ℕ) (o : Option ℕ) → ((f : ℕ) → o ≡ Some f → at ≤ f) → earlier o (Some at) ≡ Some at
-  early-right at None h = refl
-  early-right at (Some f) h = let g = h f refl in ap Some (omega arith)
-
   pub fence-shield : (at : ℕ) (cs : List Cell) → first_fenced at (shielded_from at rs cs) ≡ earlier (first_covered rs at (length cs)) (first_fenced at cs)
   fence-shield at [] = refl
-  fence-shield at (c ∷ cs) = go c.fenced (covered rs at) (fence-shield (at + 1) cs)
-    where
-      rest : Option ℕ
-      rest = first_fenced (at + 1) cs
-
-      more : Option ℕ
-      more = first_covered rs (at + 1) (length cs)
-
-      go : (f v : Bool) → first_fenced (at + 1) (shielded_from (at + 1) rs cs) ≡ earlier more rest →
-          cond (f || v) (Some at) (first_fenced (at + 1) (shielded_from (at + 1) rs cs)) ≡ earlier (cond v (Some at) more) (cond f (Some at) rest)
-      go true true h = sym (early-left at (Some at) (λ f e. let z : at ≡ f = cc in omega arith))
-      go true false h = sym (early-right at more (λ f e. let k = cover-late (length cs) (at + 1) f e in omega arith))
-      go false true h = sym (early-left at rest (λ f e. let k = fence-late (at + 1) f cs e in omega arith))
-      go false false h = h
+  fence-shield at (c ∷ cs) =
+      rw (or_comm c.fenced (covered rs at))
+      (earlier-step at (covered rs at) c.fenced _ (first_covered rs (at + 1) (length cs)) (first_fenced (at + 1) cs)
+      (λ f e. let k = cover-late rs (length cs) (at + 1) f e in omega arith) (λ f e. let k = fence-late (at + 1) f cs e in omega arith) (fence-shield (at + 1) cs))
 
   -- ## The calls
 
@@ -104,23 +81,13 @@ module _ (rs : List Range) where
   -- the fence question, by what the board below answered
   pub fence-answer : (i : Image) (s n : ℕ) (found : Option ℕ) → Ok found ≡ fence_result i s n →
       Ok (earlier (first_covered rs s n) found) ≡ fence_result (shielded rs i) s n
-  fence-answer i s n found e = go (inside i s n) refl e
-    where
-      go : (b : Bool) → inside i s n ≡ b → Ok found ≡ cond b (Ok (fence_in i s n)) (Err OutOfRange) →
-          Ok (earlier (first_covered rs s n) found) ≡ fence_result (shielded rs i) s n
-      go true t e =
-          let is : found ≡ fence_in i s n = cc in
-          rw (inside-shield i s n, t, fence-in i s n t) (ap (λ (o : Option ℕ). Ok (earlier (first_covered rs s n) o)) is)
-      go false t e = let z : ◌≡◌ {A = ℕ} 0 1 = cc in absurd (omega arith)
+  fence-answer i s n found e =
+      let t = accepted_by (inside i s n) e in
+      rw (inside-shield i s n, t.0, fence-in i s n t.0) (ap (λ (o : Option ℕ). Ok (earlier (first_covered rs s n) o)) t.1)
 
   pub fence-refused : (i : Image) (s n : ℕ) (x : Refusal) → ◌≡◌ {A = Result (Option ℕ) Refusal} (Err x) (fence_result i s n) →
       ◌≡◌ {A = Result (Option ℕ) Refusal} (Err x) (fence_result (shielded rs i) s n)
-  fence-refused i s n x e = go (inside i s n) refl e
-    where
-      go : (b : Bool) → inside i s n ≡ b → ◌≡◌ {A = Result (Option ℕ) Refusal} (Err x) (cond b (Ok (fence_in i s n)) (Err OutOfRange)) →
-          ◌≡◌ {A = Result (Option ℕ) Refusal} (Err x) (fence_result (shielded rs i) s n)
-      go true t e = let z : ◌≡◌ {A = ℕ} 0 1 = cc in absurd (omega arith)
-      go false t e = rw (inside-shield i s n, t) e
+  fence-refused i s n x e = let t = refused_by (inside i s n) (fence_in i s n) e in rw (inside-shield i s n, t.0, t.1) refl
 
   pub read_same : (i : Image) (s n : ℕ) → read_result i s n ≡ read_result (shielded rs i) s n
   read_same i s n = rw (inside-shield i s n) refl
@@ -134,28 +101,33 @@ module _ (rs : List Range) where
   pub size_same : (i : Image) → length i ≡ length (shielded rs i)
   size_same i = sym (length-shield 0 i)
 
-  -- a write, with the range's own test and the shield's own fence known
-  pub outside : (i : Image) (s : ℕ) (bs : List ℕ) → inside i s (length bs) ≡ false → write_result (shielded rs i) s bs ≡ Err OutOfRange
-  outside i s bs t = rw (inside-shield i s (length bs), t) refl
+  -- a write, by what the shield answers to the fence question: it refuses, or the board below decides
+  pub write-refused : (i : Image) (s : ℕ) (bs : List ℕ) (x : Refusal) → Err x ≡ fence_result (shielded rs i) s (length bs) → write_result (shielded rs i) s bs ≡ Err x
+  write-refused i s bs x told = let t = refused_by (inside (shielded rs i) s (length bs)) (fence_in (shielded rs i) s (length bs)) told in rw (t.0, t.1) refl
 
-  pub fenced : (i : Image) (s : ℕ) (bs : List ℕ) → inside i s (length bs) ≡ true → is_some (first_covered rs s (length bs)) ≡ true →
+  pub fenced : {o : Option ℕ} (i : Image) (s : ℕ) (bs : List ℕ) → Ok o ≡ fence_result (shielded rs i) s (length bs) → true ≡ is_some o →
       write_result (shielded rs i) s bs ≡ Err Fenced
-  fenced i s bs t h =
-      rw (inside-shield i s (length bs), t, fence-in i s (length bs) t) (go (first_covered rs s (length bs)) (fence_in i s (length bs)) h)
+  fenced i s bs told some =
+      let t = accepted_by (inside (shielded rs i) s (length bs)) told in
+      rw t.0 (go (fence_in (shielded rs i) s (length bs)) (some ∙ ap is_some t.1))
     where
-      go : (o p : Option ℕ) → is_some o ≡ true → unless_fenced (earlier o p) ≡ Err Fenced
-      go None p e = let z : ◌≡◌ {A = ℕ} 0 1 = cc in absurd (omega arith)
-      go (Some x) None e = refl
-      go (Some x) (Some y) e = refl
+      go : (f : Option ℕ) → true ≡ is_some f → unless_fenced f ≡ Err Fenced
+      go None e = absurd (cc)
+      go (Some x) e = refl
 
-  pub passed : (i : Image) (s : ℕ) (bs : List ℕ) → inside i s (length bs) ≡ true → is_some (first_covered rs s (length bs)) ≡ false →
+  pub passed : {o : Option ℕ} (i : Image) (s : ℕ) (bs : List ℕ) → Ok o ≡ fence_result (shielded rs i) s (length bs) → false ≡ is_some o →
       write_result (shielded rs i) s bs ≡ write_result i s bs
-  passed i s bs t h =
-      rw (inside-shield i s (length bs), t, fence-in i s (length bs) t) (go (first_covered rs s (length bs)) (fence_in i s (length bs)) h)
+  passed i s bs told none =
+      let n = length bs in
+      let t = accepted_by (inside (shielded rs i) s n) told in
+      let u : inside i s n ≡ true = sym (inside-shield i s n) ∙ t.0 in
+      let f = fence-in i s n u in
+      rw (t.0, u, f) (go (first_covered rs s n) (fence_in i s n) (none ∙ ap is_some (t.1 ∙ f)))
     where
-      go : (o p : Option ℕ) → is_some o ≡ false → unless_fenced (earlier o p) ≡ unless_fenced p
-      go None p e = refl
-      go (Some x) p e = let z : ◌≡◌ {A = ℕ} 0 1 = cc in absurd (omega arith)
+      go : (x y : Option ℕ) → false ≡ is_some (earlier x y) → unless_fenced (earlier x y) ≡ unless_fenced y
+      go None y e = refl
+      go (Some x) None e = absurd (cc)
+      go (Some x) (Some y) e = absurd (cc)
 
   -- what is shown after the board below was written
   pub shown-after : (r : Result (Unit {0}) Refusal) (i : Image) (s : ℕ) (bs : List ℕ) →

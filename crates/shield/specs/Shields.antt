@@ -1,5 +1,5 @@
 -- The ranges of a shield, and what it shows of the board below.
-use Rattle.std.specs.Prelude.{◌≡◌, ℕ, zero, suc, ◌+◌, ◌<◌, ◌≤◌, min, false, cond, List, length, take, Some, None, Option, nat_lt, slice_index_or, slice_set}
+use Rattle.std.specs.Prelude.{ℕ, zero, suc, ◌+◌, min, cond, List, length, take, Some, None, Option, nat_lt, slice_index_or, slice_set}
 use Rattle.image.specs.declared.Range.{Range}
 use Rattle.image.specs.Layers.{covered, widened}
 use Rattle.shield.specs.declared.ranges.Ranges.{Ranges}
@@ -17,10 +17,6 @@ widened_at ranges i by =
 abbrev pub first_covered : List Range → ℕ → ℕ → Option ℕ
 first_covered ranges at zero = None
 first_covered ranges at (suc count) = cond (covered ranges at) (Some at) (first_covered ranges (at + 1) count)
-
--- no range has a place from this one on and below that one
-abbrev pub Clear : List Range → ℕ → ℕ → Type 0
-Clear ranges from to = (place : ℕ) → from ≤ place → place < to → covered ranges place ≡ false
 
 -- the earlier of two places
 abbrev pub earlier : Option ℕ → Option ℕ → Option ℕ

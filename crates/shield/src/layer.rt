@@ -6,7 +6,7 @@ ghost use Rattle.shield.specs.Shields.{ranges_of, widened_at, earlier};
 ghost use Rattle.shield.specs.Shown.{shield_image, shield_lent, written_below};
 
 use crate::ranges::Ranges;
-use board::{Board, within};
+use board::Board;
 use datasheet::Refusal;
 
 // A board whose cells in up to eight ranges are fenced besides those below.
@@ -20,11 +20,7 @@ pub struct Shield<B> {
 fn earlier(a: Option<usize>, b: Option<usize>) -> Option<usize>
     ensures { result ≡ earlier a b }
 {
-    match (a, b) {
-        (Some(x), Some(y)) => Some(x.min(y)),
-        (Some(x), None) => Some(x),
-        (None, other) => other,
-    }
+    a.into_iter().chain(b).min()
 }
 
 impl<B: Board> Shield<B> {
@@ -104,11 +100,7 @@ impl<B: Board> Board for Shield<B> {
         ensures below { B.image self.new.below ≡ written_below (ranges_of self.old.ranges) (B.image self.old.below) start bytes.now }
         ensures ranges { self.new.ranges ≡ self.old.ranges }
     {
-        let size = self.below.size();
-        if !within(start, bytes.len(), size) {
-            return Err(Refusal::OutOfRange);
-        }
-        if self.ranges.first_in(start, bytes.len()).is_some() {
+        if self.first_fence(start, bytes.len())?.is_some() {
             return Err(Refusal::Fenced);
         }
         self.below.write(start, bytes)

@@ -4,8 +4,9 @@ mod table;
 
 use image::Range;
 
-// The table of a shield: up to eight ranges, of which the first `used` count.
-#[derive(Clone, Copy, Drop)]
+// The table of a shield: up to eight ranges, of which the first `used` count. By a rule of the project these are an array of
+// eight in a struct within the shield, one of which is lent and changed through `&mut self`.
+#[derive(Clone, Copy)]
 pub struct Ranges {
     ranges: [Range; 8],
     used: usize,

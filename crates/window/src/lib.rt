@@ -1,13 +1,12 @@
 // A window: a part of a board, as a board.
 #![tactic(auto)]
 
-ghost use Rattle.std.specs.Prelude.{◌≡◌, ◌+◌, ◌^◌, ◌<◌, ◌≤◌, length};
+ghost use Rattle.std.specs.Prelude.{◌≡◌, ◌+◌, ◌≤◌, length, IfOk};
 ghost use Rattle.image.specs.Images.{most};
 ghost use Rattle.image.specs.Results.{fence_result, read_result, read_into, write_result, written};
-ghost use Rattle.image.specs.Layers.{windowed, base_of};
-ghost use Rattle.window.specs.Windows.{window_image, window_lent, written_below};
+ghost use Rattle.window.specs.Windows.{base_result, window_image, window_lent, written_below};
 
-use board::{Board, within};
+use board::{Board, check_range};
 use datasheet::Refusal;
 
 // The cells of a board from an offset on, at most `count` of them, as far as they exist there.
@@ -16,13 +15,6 @@ pub struct Window<B> {
     below: B,
     offset: usize,
     count: usize,
-}
-
-// Where a window begins in the board below, and how many cells it has.
-#[derive(Clone, Copy, Drop)]
-struct Span {
-    base: usize,
-    size: usize,
 }
 
 impl<B: Board> Window<B> {
@@ -39,10 +31,10 @@ impl<B: Board> Window<B> {
         }
     }
 
-    fn span(&mut self) -> Span
-        ensures base { result.base ≡ base_of self.old.offset (B.image self.old.below) }
-        ensures size { result.size ≡ length (windowed self.old.offset self.old.count (B.image self.old.below)) }
-        ensures few { result.base + result.size ≤ most }
+    // Where the window begins in the board below, if `count` places from `start` on lie in it.
+    fn base(&mut self, start: usize, count: usize) -> Result<usize, Refusal>
+        ensures base { result ≡ base_result self.old.offset self.old.count (B.image self.old.below) start count }
+        ensures few { IfOk result (λ base. base + start + count ≤ most) }
         ensures below { B.image self.new.below ≡ B.image self.old.below }
         ensures lent { B.lent self.new.below ≡ B.lent self.old.below }
         ensures offset { self.new.offset ≡ self.old.offset }
@@ -50,10 +42,8 @@ impl<B: Board> Window<B> {
     {
         let total = self.below.size();
         let base = self.offset.min(total);
-        Span {
-            base,
-            size: self.count.min(total - base),
-        }
+        check_range(start, count, self.count.min(total - base))?;
+        Ok(base)
     }
 }
 
@@ -69,7 +59,8 @@ impl<B: Board> Board for Window<B> {
         ensures lent { window_lent B.lent self.new ≡ window_lent B.lent self.old }
         ensures below { B.image self.new.below ≡ B.image self.old.below }
     {
-        self.span().size
+        let total = self.below.size();
+        self.count.min(total.saturating_sub(self.offset))
     }
 
     fn first_fence(&mut self, start: usize, count: usize) -> Result<Option<usize>, Refusal>
@@ -78,15 +69,9 @@ impl<B: Board> Board for Window<B> {
         ensures lent { window_lent B.lent self.new ≡ window_lent B.lent self.old }
         ensures below { B.image self.new.below ≡ B.image self.old.below }
     {
-        let span = self.span();
-        if !within(start, count, span.size) {
-            return Err(Refusal::OutOfRange);
-        }
-        let found = self.below.first_fence(span.base + start, count)?;
-        match found {
-            Some(place) => Ok(Some(place - span.base)),
-            None => Ok(None),
-        }
+        let base = self.base(start, count)?;
+        let found = self.below.first_fence(base + start, count)?;
+        Ok(found.map(|place| place - base))
     }
 
     fn read(&mut self, start: usize, buffer: &mut [u8]) -> Result<(), Refusal>
@@ -96,11 +81,8 @@ impl<B: Board> Board for Window<B> {
         ensures lent { window_lent B.lent self.new ≡ window_lent B.lent self.old }
         ensures below { B.image self.new.below ≡ B.image self.old.below }
     {
-        let span = self.span();
-        if !within(start, buffer.len(), span.size) {
-            return Err(Refusal::OutOfRange);
-        }
-        self.below.read(span.base + start, buffer)
+        let base = self.base(start, buffer.len())?;
+        self.below.read(base + start, buffer)
     }
 
     fn write(&mut self, start: usize, bytes: &[u8]) -> Result<(), Refusal>
@@ -109,10 +91,7 @@ impl<B: Board> Board for Window<B> {
         ensures lent { window_lent B.lent self.new ≡ window_lent B.lent self.old }
         ensures below { B.image self.new.below ≡ written_below self.old.offset self.old.count (B.image self.old.below) start bytes.now }
     {
-        let span = self.span();
-        if !within(start, bytes.len(), span.size) {
-            return Err(Refusal::OutOfRange);
-        }
-        self.below.write(span.base + start, bytes)
+        let base = self.base(start, bytes.len())?;
+        self.below.write(base + start, bytes)
     }
 }

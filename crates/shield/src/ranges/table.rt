@@ -1,27 +1,20 @@
-ghost use Rattle.std.specs.Prelude.{◌≡◌, ℕ, ◌+◌, ◌^◌, ◌<◌, ◌≤◌, true, false, [], ◌∷◌, ◌++◌, length, if◌then◌else◌, Ok, Err, nat_lt};
+ghost use Rattle.std.specs.Prelude.{◌≡◌, [], ◌∷◌, ◌++◌, length, if◌then◌else◌, Ok, Err, nat_lt};
 ghost use Rattle.datasheet.specs.declared.refusal.Refusal.TheVariants.{OutOfRange, ShieldFull};
-ghost use Rattle.image.specs.Layers.{has, widened};
-ghost use Rattle.shield.specs.Shields.{ranges_of, widened_at, first_covered, Clear};
+ghost use Rattle.image.specs.Layers.{widened};
+ghost use Rattle.shield.specs.Shields.{ranges_of, widened_at, first_covered};
 
 use super::Ranges;
 use board::MOST;
 use datasheet::Refusal;
 use image::Range;
 
-// How many places from `start` on lie before the first one there that the range has, at most `count`.
-fn gap(range: &Range, start: usize, count: usize) -> usize
-    ensures low { result ≤ count }
-    ensures clear { Clear (range.now ∷ []) start (start + result) }
-    ensures found { result < count → has range.now (start + result) ≡ true }
-    ensures fits { result < count → start + result < 2 ^ 64 }
+// The first place that both ranges have.
+fn first_shared(one: &Range, other: &Range) -> Option<usize>
+    ensures { result ≡ first_covered (one.now ∷ []) other.now.start other.now.count }
 {
-    if range.count > 0 && start < range.start {
-        count.min(range.start - start)
-    } else if start >= range.start && start - range.start < range.count {
-        0
-    } else {
-        count
-    }
+    let first = one.start.max(other.start);
+    let shared = first - one.start < one.count && first - other.start < other.count;
+    shared.then_some(first)
 }
 
 // A range with more places, 1,048,576 in all at the most.
@@ -48,7 +41,8 @@ impl Ranges {
         ensures after { ranges_of self.new ≡
             (if nat_lt (length (ranges_of self.old)) 8 then (ranges_of self.old ++ record { start = start; count = count } ∷ []) else ranges_of self.old) }
     {
-        if self.used >= 8 {
+        // Tested first, for `get_mut` says nothing of the array after its borrow, and the proof needs the other ranges unchanged.
+        if self.used >= self.ranges.len() {
             return Err(Refusal::ShieldFull);
         }
         self.ranges[self.used] = Range { start, count };
@@ -61,6 +55,7 @@ impl Ranges {
         ensures answer { result ≡ (if nat_lt i (length (ranges_of self.old)) then Ok tt else Err OutOfRange) }
         ensures after { ranges_of self.new ≡ widened_at (ranges_of self.old) i by }
     {
+        // Tested first, as in `add`; and no slice of a field beside an invariant can be lent to be changed.
         if i >= self.used {
             return Err(Refusal::OutOfRange);
         }
@@ -72,22 +67,17 @@ impl Ranges {
     fn in_use(&self) -> &[Range]
         ensures { result.now ≡ ranges_of self.now }
     {
-        let used = self.used;
-        &self.ranges[0..used]
+        &self.ranges[..self.used]
     }
 
     // The first place among `count` from `start` on that a range has: eight comparisons at the most.
     pub(crate) fn first_in(&self, start: usize, count: usize) -> Option<usize>
         ensures { result ≡ first_covered (ranges_of self.now) start count }
     {
-        let mut free = count;
-        for range in self.in_use() {
-            free = free.min(gap(range, start, count));
-        }
-        if free < count {
-            Some(start + free)
-        } else {
-            None
-        }
+        let asked = Range { start, count };
+        self.in_use()
+            .iter()
+            .filter_map(|range| first_shared(range, &asked))
+            .min()
     }
 }

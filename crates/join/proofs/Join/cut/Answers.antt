@@ -1,17 +1,20 @@
--- `cut` says where a range lies in the two boards, and leaves both.
-use Rattle.std.proofs.Common.{arith}
+use Rattle.std.proofs.Common.{ap, ◌∙◌, Err, arith}
+use Rattle.std.proofs.lemmas.Result.{err_from_is_err_and}
 use Rattle.join.proofs.Seams.{length-joined}
+use Rattle.join.proofs.Halves.{cut-done, cut-refused}
 use Rattle.join.proofs.Join.cut.Goals as goal
 
-pub returns : goal.returns
-returns g c =
-    let w = c.args.self.now in
-    let e = length-joined (g.A.Board.image w.first) (g.B.Board.image w.second) in
-    record {
-      cut = record { total = omega arith; seam = omega arith; at = omega arith; front = omega arith; next = omega arith; back = omega arith };
-      few = omega arith;
-      first = c.size-seam.ensures.same;
-      second = c.size-rest.ensures.same;
-      lent_first = c.size-seam.ensures.lent;
-      lent_second = c.size-rest.ensures.lent;
-    }
+pub returns-in_err-check_range-clause-cut : goal.returns-in_err-check_range-clause-cut
+returns-in_err-check_range-clause-cut g c =
+    let a = g.A.Board.image c.args.self.now.first in
+    let b = g.B.Board.image c.args.self.now.second in
+    let e = length-joined a b in
+    let p = err_from_is_err_and c.from_residual.result c.from_residual.ensures.1 in
+    p.1 ∙ ap Err p.2 ∙ cut-refused a b c.args.start c.args.count (omega arith) c.in_err-check_range.ensures
+
+pub returns-clause-cut : goal.returns-clause-cut
+returns-clause-cut g c =
+    let a = g.A.Board.image c.args.self.now.first in
+    let b = g.B.Board.image c.args.self.now.second in
+    let e = length-joined a b in
+    cut-done a b c.args.start c.args.count (omega arith) c.in_ok-check_range.ensures c.size-seam.ensures.answer c.min-at.ensures c.min-ahead.ensures

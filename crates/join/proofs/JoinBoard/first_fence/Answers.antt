@@ -1,38 +1,32 @@
--- `first_fence` of a join answers the first board's place, or else the second's with the seam added.
-use Rattle.std.proofs.Common.{arith}
-use Rattle.join.proofs.Halves.{parts, kept, unasked, first-told, second-told, fence-ahead, fence-behind, place-few}
+use Rattle.std.proofs.Common.{arith, rules}
+use Rattle.join.proofs.Halves.{parts, second-told, fence-ahead, fence-behind, place-few}
 use Rattle.join.proofs.JoinBoard.first_fence.Goals as goal
 
-pub returns-in_err-ahead : goal.returns-in_err-ahead
-returns-in_err-ahead g c =
-    let h = parts c.cut-cut.ensures c.within.ensures c.if-not-within.false in
-    absurd (first-told h c.in_err-ahead.ensures.answer)
+pub returns-then-is_some-clause-answer : goal.returns-then-is_some-clause-answer
+returns-then-is_some-clause-answer g c =
+    let w = c.args.self.now in
+    let told = c.in_ok-cut.ensures in
+    let h = parts (g.A.Board.image w.first) (g.B.Board.image w.second) c.args.start c.args.count told.cut told.first told.second in
+    fence-ahead h c.in_ok-ahead.ensures.answer c.if-is_some.ensures
 
-pub returns-then-is_some : goal.returns-then-is_some
-returns-then-is_some g c =
-    let k = c.cut-cut.ensures in
-    let h = parts k c.within.ensures c.if-not-within.false in
-    kept k c.first_fence.ensures unasked (fence-ahead h c.in_ok-ahead.ensures.answer c.if-is_some.ensures)
+pub returns-in_err-behind-clause-answer : goal.returns-in_err-behind-clause-answer
+returns-in_err-behind-clause-answer g c =
+    let w = c.args.self.now in
+    let told = c.in_ok-cut.ensures in
+    let h = parts (g.A.Board.image w.first) (g.B.Board.image w.second) c.args.start c.args.count told.cut told.first told.second in
+    absurd (second-told h c.in_err-behind.ensures.answer)
 
-pub returns-in_err-place : goal.returns-in_err-place
-returns-in_err-place g c =
-    let h = parts c.cut-cut.ensures c.within.ensures c.if-not-within.false in
-    absurd (second-told h c.in_err-place.ensures.answer)
+-- the closure asks that the sum fit, besides what holds of its captures
+pub map-requires : goal.map-requires
+map-requires g c =
+    let w = c.args.self.now in
+    let told = c.in_ok-cut.ensures in
+    let h = parts (g.A.Board.image w.first) (g.B.Board.image w.second) c.args.start c.args.count told.cut told.first told.second in
+    λ at is _ _ _ _ _. let few = place-few h c.in_ok-behind.ensures.answer at is in omega arith
 
-pub overflow_add-result : goal.overflow_add-result
-overflow_add-result g c =
-    let h = parts c.cut-cut.ensures c.within.ensures c.if-not-within.false in
-    let few = place-few h c.in-Some.is c.in_ok-place.ensures.answer in
-    omega arith
-
-pub returns-in-Some : goal.returns-in-Some
-returns-in-Some g c =
-    let k = c.cut-cut.ensures in
-    let h = parts k c.within.ensures c.if-not-within.false in
-    kept k c.first_fence.ensures c.first_fence-2.ensures (fence-behind h c.in_ok-ahead.ensures.answer c.if-is_some.ensures c.in_ok-place.ensures.answer c.in-Some.is)
-
-pub returns-in-None : goal.returns-in-None
-returns-in-None g c =
-    let k = c.cut-cut.ensures in
-    let h = parts k c.within.ensures c.if-not-within.false in
-    kept k c.first_fence.ensures c.first_fence-2.ensures (fence-behind h c.in_ok-ahead.ensures.answer c.if-is_some.ensures c.in_ok-place.ensures.answer c.in-None.is)
+pub returns-clause-answer : goal.returns-clause-answer
+returns-clause-answer g c =
+    let w = c.args.self.now in
+    let told = c.in_ok-cut.ensures in
+    let h = parts (g.A.Board.image w.first) (g.B.Board.image w.second) c.args.start c.args.count told.cut told.first told.second in
+    fence-behind h _ (λ place at told. search rules) c.in_ok-ahead.ensures.answer c.if-is_some.ensures c.in_ok-behind.ensures.answer c.map.ensures.cases

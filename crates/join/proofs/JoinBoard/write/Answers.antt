@@ -1,41 +1,56 @@
--- `write` of a join writes both parts, or is refused and leaves both boards.
-use Rattle.std.proofs.Common.{◌≡◌, true, ◌⊎◌, is_some, sym, ◌∙◌, inl, inr}
-use Rattle.std.proofs.lemmas.List.{take_rest}
-use Rattle.join.proofs.Halves.{parts, second-told, free, first-writes, second-writes, first-written, second-written, write-refused, first-left, second-left, wrote}
-use Rattle.join.proofs.JoinBoard.write.Goals.{then-is_some-via-then-is_some, then-is_some-via-else-is_some+then-is_some-2}
+use Rattle.std.proofs.Common.{length, sym, ap, is_some, ◌∙◌}
+use Rattle.image.specs.Lent.{both}
+use Rattle.join.proofs.Seams.{at_both}
+use Rattle.join.proofs.Halves.{parts, front_fits, second-told, free, write_answered, first-written, second-written, write-refused, first-left, second-left, both-written}
 use Rattle.join.proofs.JoinBoard.write.Goals as goal
+
+pub split_at-requires : goal.split_at-requires
+split_at-requires g c =
+    let w = c.args.self.now in
+    let told = c.in_ok-cut.ensures in
+    let h = parts (g.A.Board.image w.first) (g.B.Board.image w.second) c.args.start (length c.args.bytes.now) told.cut told.first told.second in
+    front_fits h
 
 pub returns-in_err-behind : goal.returns-in_err-behind
 returns-in_err-behind g c =
-    let h = parts c.cut-cut.ensures c.within.ensures c.if-not-within.false in
+    let w = c.args.self.now in
+    let told = c.in_ok-cut.ensures in
+    let h = parts (g.A.Board.image w.first) (g.B.Board.image w.second) c.args.start (length c.args.bytes.now) told.cut told.first told.second in
     absurd (second-told h c.in_err-behind.ensures.answer)
-
-pub returns-then-is_some : goal.returns-then-is_some
-returns-then-is_some g c =
-    let k = c.cut-cut.ensures in
-    let h = parts k c.within.ensures c.if-not-within.false in
-    let some : (true ≡ is_some c.in_ok-ahead.ahead) ⊎ (true ≡ is_some c.in_ok-behind.behind) =
-    elim c.then-is_some.branch [
-      | then-is_some-via-then-is_some w ↦ inl w.if-is_some.ensures
-      | then-is_some-via-else-is_some+then-is_some-2 w ↦ inr w.if-is_some-2.ensures
-    ] in
-    let bs = c.args.bytes.now in
-    let refused = write-refused bs h c.in_ok-ahead.ensures.answer c.in_ok-behind.ensures.answer some in
-    wrote bs h (sym refused) (c.first_fence.ensures.same ∙ first-left bs h refused) (c.first_fence-2.ensures.same ∙ second-left bs h refused)
-    (c.first_fence.ensures.lent ∙ k.lent_first) (c.first_fence-2.ensures.lent ∙ k.lent_second)
-
-pub returns-in_err-write : goal.returns-in_err-write
-returns-in_err-write g c =
-    let h = parts c.cut-cut.ensures c.within.ensures c.if-not-within.false in
-    let f = free h c.first_fence.ensures c.first_fence-2.ensures c.in_ok-ahead.ensures.answer c.if-is_some.ensures c.in_ok-behind.ensures.answer c.if-is_some-2.ensures in
-    absurd (first-writes c.args.bytes.now f c.in_err-write.ensures.answer)
 
 pub returns : goal.returns
 returns g c =
-    let k = c.cut-cut.ensures in
-    let h = parts k c.within.ensures c.if-not-within.false in
-    let f = free h c.first_fence.ensures c.first_fence-2.ensures c.in_ok-ahead.ensures.answer c.if-is_some.ensures c.in_ok-behind.ensures.answer c.if-is_some-2.ensures in
+    let w = c.args.self.now in
+    let told = c.in_ok-cut.ensures in
+    let h = parts (g.A.Board.image w.first) (g.B.Board.image w.second) c.args.start (length c.args.bytes.now) told.cut told.first told.second in
+    let f = free h c.first_fence.ensures.same c.first_fence-2.ensures.same c.in_ok-ahead.ensures.answer c.in_ok-behind.ensures.answer (c.if-is_some.ensures ∙ ap is_some c.or.ensures) in
     let bs = c.args.bytes.now in
-    let lent = take_rest bs c.cut-cut.result.front in
-    wrote bs h (second-writes bs f lent c.write-2.ensures.answer) (first-written bs f c.write.ensures.after) (second-written bs f lent c.write-2.ensures.after)
-    (c.write.ensures.lent ∙ c.first_fence.ensures.lent ∙ k.lent_first) (c.write-2.ensures.lent ∙ c.first_fence-2.ensures.lent ∙ k.lent_second)
+    let split = c.split_at.ensures in
+    let first = first-written bs f split.front split.back c.write.ensures.after in
+    let second = second-written bs f split.front split.back c.write-2.ensures.after in
+    record {
+      answer = c.write-2.ensures.answer ∙ write_answered bs f split.front split.back;
+      after = both-written (g.A.Board.image w.first) (g.B.Board.image w.second) c.args.start bs first second;
+      lent = at_both both (c.write.ensures.lent ∙ c.first_fence.ensures.lent ∙ told.lent_first) (c.write-2.ensures.lent ∙ c.first_fence-2.ensures.lent ∙ told.lent_second);
+      first = first;
+      second = second;
+    }
+
+pub returns-then-is_some : goal.returns-then-is_some
+returns-then-is_some g c =
+    let w = c.args.self.now in
+    let told = c.in_ok-cut.ensures in
+    let h = parts (g.A.Board.image w.first) (g.B.Board.image w.second) c.args.start (length c.args.bytes.now) told.cut told.first told.second in
+    let bs = c.args.bytes.now in
+    let ahead = c.in_ok-ahead.ensures.answer in
+    let behind = c.in_ok-behind.ensures.answer in
+    let some = c.if-is_some.ensures ∙ ap is_some c.or.ensures in
+    let first = c.first_fence.ensures.same ∙ first-left bs h ahead behind some in
+    let second = c.first_fence-2.ensures.same ∙ second-left bs h ahead behind some in
+    record {
+      answer = sym (write-refused bs h ahead behind some);
+      after = both-written (g.A.Board.image w.first) (g.B.Board.image w.second) c.args.start bs first second;
+      lent = at_both both (c.first_fence.ensures.lent ∙ told.lent_first) (c.first_fence-2.ensures.lent ∙ told.lent_second);
+      first = first;
+      second = second;
+    }

@@ -1,35 +1,18 @@
-use Rattle.std.proofs.Common.{Ok, Err, Option, refl, ap, ◌∙◌}
+use Rattle.std.proofs.Common.{Ok, Err, Option, ap, ◌∙◌}
 use Rattle.std.proofs.lemmas.Result.{err_from_is_err_and}
-use Rattle.image.specs.Layers.{shielded}
-use Rattle.image.specs.Lent.{under}
 use Rattle.shield.specs.Shields.{ranges_of, earlier}
 use Rattle.shield.proofs.Covers.{fence-answer, fence-refused}
 use Rattle.shield.proofs.layer.ShieldBoard.first_fence.Goals as goal
 
-pub returns-in_err-below : goal.returns-in_err-below
-returns-in_err-below g c =
+pub returns-in_err-below-clause-answer : goal.returns-in_err-below-clause-answer
+returns-in_err-below-clause-answer g c =
     let s = c.args.self.now in
-    let rs = ranges_of s.ranges in
-    let did = c.in_err-below.ensures in
     let p = err_from_is_err_and c.from_residual.result c.from_residual.ensures.1 in
-    record {
-      answer = p.1 ∙ ap Err p.2 ∙ fence-refused rs (g.B.Board.image s.below) c.args.start c.args.count _ did.answer;
-      same = ap (shielded rs) did.same;
-      lent = ap (under rs) did.lent;
-      below = did.same;
-      ranges = refl;
-    }
+    p.1 ∙ ap Err p.2 ∙ fence-refused (ranges_of s.ranges) (g.B.Board.image s.below) c.args.start c.args.count _ c.in_err-below.ensures.answer
 
-pub returns : goal.returns
-returns g c =
+pub returns-clause-answer : goal.returns-clause-answer
+returns-clause-answer g c =
     let s = c.args.self.now in
-    let rs = ranges_of s.ranges in
-    let did = c.in_ok-below.ensures in
-    record {
-      answer = ap Ok (c.earlier.ensures ∙ ap (λ (o : Option _). earlier o c.in_ok-below.below) c.first_in.ensures)
-          ∙ fence-answer rs (g.B.Board.image s.below) c.args.start c.args.count c.in_ok-below.below did.answer;
-      same = ap (shielded rs) did.same;
-      lent = ap (under rs) did.lent;
-      below = did.same;
-      ranges = refl;
-    }
+    let below = c.in_ok-below.below in
+    ap Ok (c.earlier.ensures ∙ ap (λ (o : Option _). earlier o below) c.first_in.ensures)
+    ∙ fence-answer (ranges_of s.ranges) (g.B.Board.image s.below) c.args.start c.args.count below c.in_ok-below.ensures.answer

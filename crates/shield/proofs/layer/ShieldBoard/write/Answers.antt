@@ -1,64 +1,60 @@
-use Rattle.std.proofs.Common.{◌≡◌, ℕ, ◌+◌, Bool, leb, length, is_some, sym, refl, ap, ◌∙◌}
-use Rattle.image.specs.Images.{Image, inside}
+use Rattle.std.proofs.Common.{Err, sym, ap, ◌∙◌}
+use Rattle.std.proofs.lemmas.Result.{err_from_is_err_and}
+use Rattle.image.specs.Images.{Image}
 use Rattle.image.specs.Results.{write_result, written}
-use Rattle.image.specs.Layers.{shielded}
-use Rattle.image.specs.Lent.{under}
 use Rattle.shield.specs.Shields.{ranges_of}
-use Rattle.shield.proofs.Covers.{outside, fenced, passed, left-shown, left_below, shown-written, below-written}
+use Rattle.shield.proofs.Covers.{write-refused, fenced, passed, left-shown, left_below, shown-written, below-written}
 use Rattle.shield.proofs.layer.ShieldBoard.write.Goals as goal
 
--- what the test of the range says of the image below
-tested : {size : ℕ} {r b : Bool} (i : Image) (s n : ℕ) → size ≡ length i → r ≡ leb (s + n) size → r ≡ b → inside i s n ≡ b
-tested i s n e f t = rw (sym e) (sym f ∙ t)
-
-pub returns-then-not-within : goal.returns-then-not-within
-returns-then-not-within g c =
+pub returns-in_err-first_fence : goal.returns-in_err-first_fence
+returns-in_err-first_fence g c =
     let rs = ranges_of c.args.self.now.ranges in
     let i = g.B.Board.image c.args.self.now.below in
-    let at = c.args.start in
-    let bs = c.args.bytes.now in
-    let did = c.size-size.ensures in
-    let o = outside rs i at bs (tested i at (length bs) did.answer c.within.ensures c.if-not-within.true) in
+    let did = c.in_err-first_fence.ensures in
+    let p = err_from_is_err_and c.from_residual.result c.from_residual.ensures.1 in
+    let o = write-refused rs i c.args.start c.args.bytes.now _ did.answer in
     record {
-      answer = sym o;
-      after = ap (shielded rs) did.same ∙ left-shown rs i at bs o;
-      lent = ap (under rs) did.lent;
-      below = did.same ∙ left_below rs i at bs o;
-      ranges = refl;
+      answer = p.1 ∙ ap Err p.2 ∙ sym o;
+      after = did.same ∙ left-shown rs i c.args.start c.args.bytes.now o;
+      lent = did.lent;
+      below = did.below ∙ left_below rs i c.args.start c.args.bytes.now o;
+      ranges = did.ranges;
     }
 
 pub returns-then-is_some : goal.returns-then-is_some
 returns-then-is_some g c =
     let rs = ranges_of c.args.self.now.ranges in
     let i = g.B.Board.image c.args.self.now.below in
-    let at = c.args.start in
-    let bs = c.args.bytes.now in
-    let did = c.size-size.ensures in
-    let o = fenced rs i at bs (tested i at (length bs) did.answer c.within.ensures c.if-not-within.false)
-    (ap is_some (sym c.first_in.ensures) ∙ sym c.is_some.ensures ∙ c.if-is_some.true) in
+    let did = c.in_ok-first_fence.ensures in
+    let o = fenced rs i c.args.start c.args.bytes.now did.answer c.if-is_some.ensures in
     record {
       answer = sym o;
-      after = ap (shielded rs) did.same ∙ left-shown rs i at bs o;
-      lent = ap (under rs) did.lent;
-      below = did.same ∙ left_below rs i at bs o;
-      ranges = refl;
+      after = did.same ∙ left-shown rs i c.args.start c.args.bytes.now o;
+      lent = did.lent;
+      below = did.below ∙ left_below rs i c.args.start c.args.bytes.now o;
+      ranges = did.ranges;
     }
 
-pub returns : goal.returns
-returns g c =
+pub returns-clause-answer : goal.returns-clause-answer
+returns-clause-answer g c =
     let rs = ranges_of c.args.self.now.ranges in
     let i = g.B.Board.image c.args.self.now.below in
-    let at = c.args.start in
-    let bs = c.args.bytes.now in
-    let did = c.size-size.ensures in
-    let wrote = c.write.ensures in
-    let o = passed rs i at bs (tested i at (length bs) did.answer c.within.ensures c.if-not-within.false)
-    (ap is_some (sym c.first_in.ensures) ∙ sym c.is_some.ensures ∙ c.if-is_some.false) in
-    let below = wrote.after ∙ ap (λ (j : Image). written j at bs) did.same in
-    record {
-      answer = wrote.answer ∙ ap (λ (j : Image). write_result j at bs) did.same ∙ sym o;
-      after = shown-written rs i _ at bs o below;
-      lent = ap (under rs) (wrote.lent ∙ did.lent);
-      below = below-written rs i _ at bs o below;
-      ranges = refl;
-    }
+    let did = c.in_ok-first_fence.ensures in
+    let o = passed rs i c.args.start c.args.bytes.now did.answer c.if-is_some.ensures in
+    c.write.ensures.answer ∙ ap (λ (j : Image). write_result j c.args.start c.args.bytes.now) did.below ∙ sym o
+
+pub returns-clause-after : goal.returns-clause-after
+returns-clause-after g c =
+    let rs = ranges_of c.args.self.now.ranges in
+    let i = g.B.Board.image c.args.self.now.below in
+    let did = c.in_ok-first_fence.ensures in
+    let o = passed rs i c.args.start c.args.bytes.now did.answer c.if-is_some.ensures in
+    rw did.ranges (shown-written rs i _ c.args.start c.args.bytes.now o (c.write.ensures.after ∙ ap (λ (j : Image). written j c.args.start c.args.bytes.now) did.below))
+
+pub returns-clause-below : goal.returns-clause-below
+returns-clause-below g c =
+    let rs = ranges_of c.args.self.now.ranges in
+    let i = g.B.Board.image c.args.self.now.below in
+    let did = c.in_ok-first_fence.ensures in
+    let o = passed rs i c.args.start c.args.bytes.now did.answer c.if-is_some.ensures in
+    below-written rs i _ c.args.start c.args.bytes.now o (c.write.ensures.after ∙ ap (λ (j : Image). written j c.args.start c.args.bytes.now) did.below)

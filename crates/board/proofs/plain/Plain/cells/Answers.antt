@@ -1,0 +1,6 @@
+use Rattle.image.specs.Images.{most}
+use Rattle.image.proofs.Cells.{take_min}
+use Rattle.board.proofs.plain.Plain.cells.Goals as goal
+
+pub returns : goal.returns
+returns c = cc (take_min most c.args.self.now.memory.now)
