@@ -1,7 +1,7 @@
 ghost use Rattle.std.specs.Prelude.{◌≡◌, ◌≤◌, [], ◌∷◌, ◌++◌, length, if◌then◌else◌, Ok, Err, nat_lt};
 ghost use Rattle.datasheet.specs.declared.refusal.Refusal.TheVariants.{OutOfRange, ShieldFull};
 ghost use Rattle.image.specs.Images.{most};
-ghost use Rattle.image.specs.Results.{fence_result, read_result, read_into, write_result, written, if_accepted};
+ghost use Rattle.image.specs.Results.{fence_result, read_result, read_into, write_result, written};
 ghost use Rattle.shield.specs.Shields.{ranges_of, widened_at, earlier};
 ghost use Rattle.shield.specs.Shown.{shield_image, shield_lent, written_below};
 
