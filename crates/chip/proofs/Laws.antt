@@ -26,14 +26,17 @@ fitted c b h =
       still = c.status.still;
     }
 
+-- two resting chips of one sheet: whether their records are equal is whether no list of calls tells them apart
 pub told : (a b : Chip) (r : Bool) → Bytes a → Bytes b → Decides r (record_of a ≡ record_of b) →
     Resting a → Resting b → a.sheet ≡ b.sheet → Decides r (Alike bounded (chip_of a) (chip_of b))
 told a b r ba bb d ha hb e =
     let t = told-apart (chip_of a) (chip_of b) (fitted a ba ha) (fitted b bb hb) (ap pins_of ha.1) (ap pins_of hb.1) e in
     Decides-like r t.0 t.1 d
 
+-- the law of chips, by the rules and as the code keeps a session
 pub apart : (ToldApart whole) × (ToldApart bounded)
 apart = (told-apart-whole, told-apart)
 
+-- a fitted chip stays fitted, by the rules and as the code keeps a session
 pub stays : (StaysFitted whole) × (StaysFitted bounded)
 stays = (stays-fitted-whole, stays-fitted)

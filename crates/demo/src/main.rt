@@ -52,6 +52,7 @@ fn clock(chip: &mut Chip<'_>, byte: u8, bits: u8) -> u8 {
 // A whole session: every byte of `sent` is clocked, and `read` has what is read, as far as it reaches.
 fn session(chip: &mut Chip<'_>, sent: &[u8], read: &mut [u8]) {
     select(chip);
+    // not by `zip`, which would stop the clocks where `read` ends
     let mut places = read.iter_mut();
     for byte in sent {
         let seen = clock(chip, *byte, 8);
@@ -85,123 +86,128 @@ fn print_bytes(rt: &HostRuntime, bytes: &[u8]) -> io::Result<()> {
     Ok(())
 }
 
-// Puts a session to the pins and prints what was sent and what was read.
-fn tell(rt: &HostRuntime, chip: &mut Chip<'_>, what: &str, sent: &[u8]) -> io::Result<()> {
-    let mut buffer = [0; 16];
-    let read = &mut buffer[..sent.len().min(16)];
-    session(chip, sent, read);
-    print!(rt; "{what}: sent")?;
-    print_bytes(rt, sent)?;
-    print!(rt; ", read")?;
-    print_bytes(rt, read)?;
-    println!(rt; "")
+// A visit to a chip, and where it is told.
+#[derive(Drop)]
+struct Visit<'v, 'm> {
+    rt: &'v HostRuntime,
+    chip: &'v mut Chip<'m>,
 }
 
-// A row of pore pressures is written and read.
-fn pressures(rt: &HostRuntime, chip: &mut Chip<'_>) -> io::Result<()> {
-    println!(rt; "A row of pore pressures is written from cell 0100h on and read back.")?;
-    tell(rt, chip, "  WREN ", &[0x06])?;
-    let [[a1, a0], [b1, b0], [c1, c0], [d1, d0]] = PRESSURES.map(u16::to_be_bytes);
-    tell(
-        rt,
-        chip,
-        "  WRITE",
-        &[0x02, 0x01, 0x00, a1, a0, b1, b0, c1, c0, d1, d0],
-    )?;
-    tell(
-        rt,
-        chip,
-        "  READ ",
-        &[0x03, 0x01, 0x00, 0, 0, 0, 0, 0, 0, 0, 0],
-    )
-}
-
-// A write across the edge of a protected block.
-fn protected_edge(rt: &HostRuntime, chip: &mut Chip<'_>) -> io::Result<()> {
-    println!(rt; "The upper quarter is protected, and a write runs across its edge at 1800h.")?;
-    tell(rt, chip, "  WRSR ", &[0x01, 0x04])?;
-    tell(
-        rt,
-        chip,
-        "  WRITE",
-        &[0x02, 0x17, 0xFE, 0xA1, 0xA2, 0xA3, 0xA4],
-    )?;
-    tell(rt, chip, "  READ ", &[0x03, 0x17, 0xFE, 0, 0, 0, 0])
-}
-
-// CS raised inside a byte.
-fn cut_short(rt: &HostRuntime, chip: &mut Chip<'_>) -> io::Result<()> {
-    println!(rt;
-        "CS is raised inside the second data byte of a write: the half byte is not written."
-    )?;
-    select(chip);
-    for byte in [0x02, 0x02, 0x00, 0xB1] {
-        let _ = clock(chip, byte, 8);
+impl Visit<'_, '_> {
+    // Puts a session to the pins and prints what was sent and what was read.
+    fn tell(&mut self, what: &str, sent: &[u8]) -> io::Result<()> {
+        let rt = self.rt;
+        let mut buffer = [0; 16];
+        let shown = sent.len().min(buffer.len());
+        let read = &mut buffer[..shown];
+        session(self.chip, sent, read);
+        print!(rt; "{what}: sent")?;
+        print_bytes(rt, sent)?;
+        print!(rt; ", read")?;
+        print_bytes(rt, read)?;
+        println!(rt; "")
     }
-    let _ = clock(chip, 0xB2, 4);
-    deselect(chip);
-    println!(rt; "  WRITE: sent 02 02 00 B1 and four bits of B2")?;
-    tell(rt, chip, "  READ ", &[0x03, 0x02, 0x00, 0, 0])
-}
 
-// HOLD pulled low inside an address.
-fn held_address(rt: &HostRuntime, chip: &mut Chip<'_>) -> io::Result<()> {
-    println!(rt;
-        "HOLD is pulled low inside the address of a read: no clock counts until it is released."
-    )?;
-    select(chip);
-    let _ = clock(chip, 0x03, 8);
-    let _ = clock(chip, 0x01, 8);
-    let _ = clock(chip, 0x00, 3);
-    let shown = hold(chip, 5);
-    let _ = clock(chip, 0x00, 5);
-    let first = clock(chip, 0, 8);
-    let second = clock(chip, 0, 8);
-    deselect(chip);
-    println!(rt;
-        "  READ : sent 03 01 00 with five held clocks, SO {shown} while held, then read {first:02X} {second:02X}"
-    )
-}
+    // A row of pore pressures is written and read.
+    fn pressures(&mut self) -> io::Result<()> {
+        let rt = self.rt;
+        println!(rt; "A row of pore pressures is written from cell 0100h on and read back.")?;
+        self.tell("  WREN ", &[0x06])?;
+        let [[a1, a0], [b1, b0], [c1, c0], [d1, d0]] = PRESSURES.map(u16::to_be_bytes);
+        self.tell(
+            "  WRITE",
+            &[0x02, 0x01, 0x00, a1, a0, b1, b0, c1, c0, d1, d0],
+        )?;
+        self.tell("  READ ", &[0x03, 0x01, 0x00, 0, 0, 0, 0, 0, 0, 0, 0])
+    }
 
-// Sleep and waking.
-fn sleep(rt: &HostRuntime, chip: &mut Chip<'_>) -> io::Result<()> {
-    println!(rt; "The chip is put to sleep. The end of the next session wakes it.")?;
-    tell(rt, chip, "  SLEEP", &[0xB9])?;
-    tell(rt, chip, "  RDSR ", &[0x05, 0])?;
-    tell(rt, chip, "  RDSR ", &[0x05, 0])
-}
+    // A write across the edge of a protected block.
+    fn protected_edge(&mut self) -> io::Result<()> {
+        let rt = self.rt;
+        println!(rt; "The upper quarter is protected, and a write runs across its edge at 1800h.")?;
+        self.tell("  WRSR ", &[0x01, 0x04])?;
+        self.tell("  WRITE", &[0x02, 0x17, 0xFE, 0xA1, 0xA2, 0xA3, 0xA4])?;
+        self.tell("  READ ", &[0x03, 0x17, 0xFE, 0, 0, 0, 0])
+    }
 
-// Samples that are no samples.
-fn refused(rt: &HostRuntime, chip: &mut Chip<'_>) -> io::Result<()> {
-    match chip.sample(0x20) {
-        Ok(level) => println!(rt; "A sample with bit 5 set shows {level}."),
-        Err(refusal) => {
-            let number = u8::from(refusal);
-            println!(rt; "A sample with bit 5 set is refused by {number}, and leaves everything.")
+    // CS raised inside a byte.
+    fn cut_short(&mut self) -> io::Result<()> {
+        let rt = self.rt;
+        println!(rt;
+            "CS is raised inside the second data byte of a write: the half byte is not written."
+        )?;
+        select(self.chip);
+        for byte in [0x02, 0x02, 0x00, 0xB1] {
+            let _ = clock(self.chip, byte, 8);
+        }
+        let _ = clock(self.chip, 0xB2, 4);
+        deselect(self.chip);
+        println!(rt; "  WRITE: sent 02 02 00 B1 and four bits of B2")?;
+        self.tell("  READ ", &[0x03, 0x02, 0x00, 0, 0])
+    }
+
+    // HOLD pulled low inside an address.
+    fn held_address(&mut self) -> io::Result<()> {
+        let rt = self.rt;
+        println!(rt;
+            "HOLD is pulled low inside the address of a read: no clock counts until it is released."
+        )?;
+        select(self.chip);
+        let _ = clock(self.chip, 0x03, 8);
+        let _ = clock(self.chip, 0x01, 8);
+        let _ = clock(self.chip, 0x00, 3);
+        let shown = hold(self.chip, 5);
+        let _ = clock(self.chip, 0x00, 5);
+        let first = clock(self.chip, 0, 8);
+        let second = clock(self.chip, 0, 8);
+        deselect(self.chip);
+        println!(rt;
+            "  READ : sent 03 01 00 with five held clocks, SO {shown} while held, then read {first:02X} {second:02X}"
+        )
+    }
+
+    // Sleep and waking.
+    fn sleep(&mut self) -> io::Result<()> {
+        let rt = self.rt;
+        println!(rt; "The chip is put to sleep. The end of the next session wakes it.")?;
+        self.tell("  SLEEP", &[0xB9])?;
+        self.tell("  RDSR ", &[0x05, 0])?;
+        self.tell("  RDSR ", &[0x05, 0])
+    }
+
+    // Samples that are no samples.
+    fn refused(&mut self) -> io::Result<()> {
+        let rt = self.rt;
+        match self.chip.sample(0x20) {
+            Ok(level) => println!(rt; "A sample with bit 5 set shows {level}."),
+            Err(refusal) => {
+                let number = u8::from(refusal);
+                println!(rt;
+                    "A sample with bit 5 set is refused by {number}, and leaves everything."
+                )
+            }
         }
     }
-}
 
-// A visit to one chip.
-fn visit(rt: &HostRuntime, chip: &mut Chip<'_>) -> io::Result<()> {
-    tell(rt, chip, "  RDID ", &[0x9F, 0, 0, 0, 0])?;
-    pressures(rt, chip)?;
-    protected_edge(rt, chip)?;
-    cut_short(rt, chip)?;
-    held_address(rt, chip)?;
-    sleep(rt, chip)?;
-    refused(rt, chip)?;
-    println!(rt; "The latch is set, and power is taken away and given back over the same memory.")?;
-    tell(rt, chip, "  WREN ", &[0x06])?;
-    tell(rt, chip, "  RDSR ", &[0x05, 0])?;
-    chip.power_cycle();
-    tell(rt, chip, "  RDSR ", &[0x05, 0])?;
-    tell(
-        rt,
-        chip,
-        "  READ ",
-        &[0x03, 0x01, 0x00, 0, 0, 0, 0, 0, 0, 0, 0],
-    )
+    // The whole visit.
+    fn all(&mut self) -> io::Result<()> {
+        let rt = self.rt;
+        self.tell("  RDID ", &[0x9F, 0, 0, 0, 0])?;
+        self.pressures()?;
+        self.protected_edge()?;
+        self.cut_short()?;
+        self.held_address()?;
+        self.sleep()?;
+        self.refused()?;
+        println!(rt;
+            "The latch is set, and power is taken away and given back over the same memory."
+        )?;
+        self.tell("  WREN ", &[0x06])?;
+        self.tell("  RDSR ", &[0x05, 0])?;
+        self.chip.power_cycle();
+        self.tell("  RDSR ", &[0x05, 0])?;
+        self.tell("  READ ", &[0x03, 0x01, 0x00, 0, 0, 0, 0, 0, 0, 0, 0])
+    }
 }
 
 // Writes one byte into a cell.
@@ -344,7 +350,11 @@ fn main(rt: HostRuntime) -> io::Result<()> {
     println!(rt; "An MB85RS64VY with {cells} cells is powered over lent memory, all zeros.")?;
     let mut memory = [0u8; 8192];
     let mut chip = ParkedChip::new(sheet, 0).power(&mut memory);
-    let told = visit(&rt, &mut chip);
+    let told = Visit {
+        rt: &rt,
+        chip: &mut chip,
+    }
+    .all();
     let (_, stored) = chip.power_off().into_parts();
     told?;
     let first = u16::from_be_bytes([memory[0x0100], memory[0x0101]]);

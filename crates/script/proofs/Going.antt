@@ -9,6 +9,7 @@ use Rattle.script.specs.Reading.{Reading, reads, stops, read_script}
 use Rattle.script.specs.Replies.{answer_bytes, all_bytes}
 use Rattle.script.specs.Views.{ahead}
 
+-- an answer has nine bytes at the most
 few : (a : Answer) → length (answer_bytes a) ≤ 9
 few (shows level) = omega arith
 few done = omega arith
@@ -33,6 +34,7 @@ module _ (K : Keeping) where
     pub room : 9 * length rest ≤ length free
 
   module _ {c : Chip K.Session} {script out : List ℕ} {n : ℕ} {d : Chip K.Session} {given free : List ℕ} {k : Reading Call} (h : Going c script out n d given free k) where
+    -- one call more, and its answer behind those that are there
     pub goes_on : (x : Call) (k' : Reading Call) (e : Chip K.Session) (given' free' : List ℕ) → k ≡ ahead x k' → e ≡ after K d x →
         given' ≡ given ++ answer_bytes (answer K d x) → free' ≡ drop (length (answer_bytes (answer K d x))) free → Going c script out n e given' free' k'
     goes_on x (reads rest) e given' free' is moved put left =
@@ -49,4 +51,5 @@ module _ (K : Keeping) where
         }
     goes_on x (stops why) e given' free' is moved put left = absurd (grind arith)
 
+-- bytes put behind those that are there
 pub ruleset placing = (drop-put_mid, drop-drop)

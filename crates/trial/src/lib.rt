@@ -267,8 +267,8 @@ mod tests {
 
     const ROWS: usize = 11;
 
-    // Clocks the first `bits` bits of a byte, and answers what is read at the rises, high-Z as ones. The demo has its like,
-    // which goes on after a refused sample, where a test fails.
+    // Clocks the first `bits` bits of a byte, and answers what is read at the rises, high-Z as ones. The demo has its like, which
+    // goes on after a refused sample, where a test fails; one for both would be a call of the library.
     fn clock(chip: &mut Chip<'_>, byte: u8, bits: usize) -> Result<u8, Fail> {
         let mut read = 0;
         for i in 0..bits.min(8) {
@@ -289,6 +289,7 @@ mod tests {
     // Puts a session to the pins of the chip, and answers the bytes that are read.
     fn put_session(alloc: Global, chip: &mut Chip<'_>, session: &Session) -> Result<Vec<u8>, Fail> {
         let mut read = Vec::new(alloc);
+        // the bits that are left, since the last byte may be cut
         let mut left = session.bits;
         let _ = chip.sample(u8::from(Sample::SELECTED))?;
         for byte in session.bytes {

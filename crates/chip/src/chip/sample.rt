@@ -11,6 +11,7 @@ use super::Chip;
 use crate::session::Session;
 use datasheet::{Level, Refusal, Registers, Sample};
 
+// Each of these says for itself which chip it leaves (`sheet`, `lent`): a clause is what the next caller may rely on.
 impl Chip<'_> {
     // The new sample, judged by the last one and the session together, in a fitted chip.
     fn judge(&mut self, sample: Sample)
