@@ -31,6 +31,7 @@ impl<'m> Plain<'m> {
     }
 }
 
+// Each call says what the memory holds afterwards (`memory`): a contract speaks of one call.
 impl Board for Plain<'_> {
     ghost image = { plain_image };
 

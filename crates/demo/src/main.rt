@@ -5,6 +5,7 @@ use board::{Board, Plain};
 use chip::{Chip, ParkedChip};
 use datasheet::{Level, Part, Refusal, Sample, Sheet};
 use equality::compare;
+use image::Range;
 use join::Join;
 use shield::Shield;
 use std::io;
@@ -32,7 +33,8 @@ fn deselect(chip: &mut Chip<'_>) {
 }
 
 // The first `bits` bits of a byte, each a rise and a fall of SCK with SI at the bit. What SO shows at the rises is answered,
-// the bits that are not clocked being 0; high-Z is read as 1.
+// the bits that are not clocked being 0; high-Z is read as 1. The tests of the trial cases have its like, which fails after a
+// refused sample.
 fn clock(chip: &mut Chip<'_>, byte: u8, bits: u8) -> u8 {
     let mut read = 0;
     for i in 0..bits.min(8) {
@@ -234,7 +236,7 @@ fn two_chips(rt: &HostRuntime, first: &mut Chip<'_>, second: &mut Chip<'_>) -> i
 }
 
 // Two chips that are compared.
-#[derive(Clone, Copy)]
+#[derive(Clone, Copy, Drop)]
 struct Chips<'c, 'm> {
     first: &'c Chip<'m>,
     second: &'c Chip<'m>,
@@ -304,7 +306,11 @@ fn tell_equal<P: Board, Q: Board>(
 fn writes<B: Board>(rt: &HostRuntime, board: &mut Shield<B>) -> io::Result<()> {
     tell_board(rt, board)?;
     println!(rt; "The shield fences cells 6 and 7.")?;
-    tell_call(rt, "range from 6 of 2", board.add(6, 2))?;
+    tell_call(
+        rt,
+        "range from 6 of 2",
+        board.add(Range { start: 6, count: 2 }),
+    )?;
     tell_call(rt, "write of 2 bytes at 10", board.write(10, &[0x27, 0x94]))?;
     tell_call(rt, "write of 2 bytes at 5", board.write(5, &[0x27, 0x9C]))?;
     println!(rt; "The range is widened by 4, across the seam of the join.")?;
@@ -323,8 +329,16 @@ fn two_piles<B: Board>(rt: &HostRuntime, chips: Chips<'_, '_>, left: &mut B) -> 
     let mut memory = [0; 24];
     let _ = left.read(0, &mut memory);
     let mut right = Shield::new(Plain::new(&mut memory));
-    tell_call(rt, "range from 8 of 4", right.add(8, 4))?;
-    tell_call(rt, "range from 6 of 3", right.add(6, 3))?;
+    tell_call(
+        rt,
+        "range from 8 of 4",
+        right.add(Range { start: 8, count: 4 }),
+    )?;
+    tell_call(
+        rt,
+        "range from 6 of 3",
+        right.add(Range { start: 6, count: 3 }),
+    )?;
     tell_equal(rt, chips, left, &mut right)?;
     println!(rt; "One byte of the second pile is written.")?;
     tell_call(rt, "write of 1 byte at 0", right.write(0, &[0x01]))?;

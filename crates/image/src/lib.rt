@@ -2,14 +2,14 @@
 #![tactic(auto)]
 
 // One place of a board: its byte, and whether it is fenced, that is kept from being written.
-#[derive(Clone, Copy)]
+#[derive(Clone, Copy, Drop)]
 pub struct Cell {
     pub byte: u8,
     pub fenced: bool,
 }
 
 // A range of places: `count` places from `start` on. It may be empty, or lie past the size of a board.
-#[derive(Clone, Copy)]
+#[derive(Clone, Copy, Drop)]
 pub struct Range {
     pub start: usize,
     pub count: usize,

@@ -19,7 +19,7 @@ pub struct Join<A, B> {
 }
 
 // Where a range lies in the two boards: how many cells the first has, and the range's part in each, by that board's places.
-#[derive(Clone, Copy)]
+#[derive(Clone, Copy, Drop)]
 struct Cut {
     seam: usize,
     front: Range,
@@ -61,6 +61,7 @@ impl<A: Board, B: Board> Join<A, B> {
     }
 }
 
+// Each call says what the boards joined are afterwards (`first`, `second`): a contract speaks of one call.
 impl<A: Board, B: Board> Board for Join<A, B> {
     ghost image = { join_image A.Board.image B.Board.image };
 
@@ -86,7 +87,7 @@ impl<A: Board, B: Board> Board for Join<A, B> {
     {
         let cut = self.cut(start, count)?;
         let ahead = self.first.first_fence(cut.front.start, cut.front.count)?;
-        // The second board is asked only where the first has no fence.
+        // The second board is asked only where the first has no fence; by `or_else` its refusal could not go up by `?`.
         if ahead.is_some() {
             return Ok(ahead);
         }

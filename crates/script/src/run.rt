@@ -61,6 +61,7 @@ impl<'b> Answers<'b> {
         ensures lent { self.new.buffer.ghost_name ≡ self.old.buffer.ghost_name }
         ensures memory { chip.new.memory.ghost_name ≡ chip.old.memory.ghost_name }
     {
+        // by a rule of the project a step is a case of an enum, and carrying it out a `match`
         match step {
             Step::Sample(byte) => match chip.sample(byte) {
                 Ok(level) => self.put(&[0x81, u8::from(level)]),

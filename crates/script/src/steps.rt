@@ -7,7 +7,7 @@ ghost use Rattle.script.specs.Laws.{ReadsExactly};
 use datasheet::Refusal;
 use std::mem;
 
-// A step of the chip run. By a rule of the project a step is a case of an enum, and carrying it out a `match`.
+// A step of the chip run.
 #[derive(Drop)]
 pub(crate) enum Step {
     Sample(u8),

@@ -8,6 +8,7 @@ ghost use Rattle.shield.specs.Shown.{shield_image, shield_lent, written_below};
 use crate::ranges::Ranges;
 use board::Board;
 use datasheet::Refusal;
+use image::Range;
 
 // A board whose cells in up to eight ranges are fenced besides those below.
 #[derive(Drop)]
@@ -36,13 +37,13 @@ impl<B: Board> Shield<B> {
     }
 
     // Adds a range; a ninth is refused.
-    pub fn add(&mut self, start: usize, count: usize) -> Result<(), Refusal>
+    pub fn add(&mut self, range: Range) -> Result<(), Refusal>
         ensures answer { result ≡ (if nat_lt (length (ranges_of self.old.ranges)) 8 then Ok tt else Err ShieldFull) }
         ensures after { ranges_of self.new.ranges ≡
-            (if nat_lt (length (ranges_of self.old.ranges)) 8 then (ranges_of self.old.ranges ++ record { start = start; count = count } ∷ []) else ranges_of self.old.ranges) }
+            (if nat_lt (length (ranges_of self.old.ranges)) 8 then (ranges_of self.old.ranges ++ range ∷ []) else ranges_of self.old.ranges) }
         ensures below { self.new.below ≡ self.old.below }
     {
-        self.ranges.add(start, count)
+        self.ranges.add(range)
     }
 
     // Widens range i, counted from 0, by so many places; refused where there is no range i.
@@ -55,6 +56,7 @@ impl<B: Board> Shield<B> {
     }
 }
 
+// Each call says what the board below and the ranges are afterwards (`below`, `ranges`): a contract speaks of one call.
 impl<B: Board> Board for Shield<B> {
     ghost image = { shield_image B.Board.image };
 
@@ -79,7 +81,7 @@ impl<B: Board> Board for Shield<B> {
         ensures ranges { self.new.ranges ≡ self.old.ranges }
     {
         let below = self.below.first_fence(start, count)?;
-        Ok(earlier(self.ranges.first_in(start, count), below))
+        Ok(earlier(self.ranges.first_in(Range { start, count }), below))
     }
 
     fn read(&mut self, start: usize, buffer: &mut [u8]) -> Result<(), Refusal>

@@ -6,7 +6,7 @@ use image::Range;
 
 // The table of a shield: up to eight ranges, of which the first `used` count. By a rule of the project these are an array of
 // eight in a struct within the shield, one of which is lent and changed through `&mut self`.
-#[derive(Clone, Copy)]
+#[derive(Clone, Copy, Drop)]
 pub struct Ranges {
     ranges: [Range; 8],
     used: usize,

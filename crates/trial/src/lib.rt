@@ -258,6 +258,7 @@ mod tests {
     use board::{Board, Plain};
     use chip::{Chip, ParkedChip};
     use datasheet::{Marks, Refusal, Sample, Sheet};
+    use image::Range;
     use script::chip_visit;
     use shield::Shield;
     use std::alloc::Global;
@@ -268,7 +269,7 @@ mod tests {
     const ROWS: usize = 11;
 
     // Clocks the first `bits` bits of a byte, and answers what is read at the rises, high-Z as ones. The demo has its like, which
-    // goes on after a refused sample, where a test fails; one for both would be a call of the library.
+    // goes on after a refused sample, where a test fails.
     fn clock(chip: &mut Chip<'_>, byte: u8, bits: usize) -> Result<u8, Fail> {
         let mut read = 0;
         for i in 0..bits.min(8) {
@@ -405,16 +406,16 @@ mod tests {
     fn a_write_of_no_cells_passes_a_fence(rt: HostRuntime) {
         let mut memory = [0; 8];
         let mut board = Shield::new(Plain::new(&mut memory));
-        assert_eq!(rt; refused(board.add(3, 1)), None);
+        assert_eq!(rt; refused(board.add(Range { start: 3, count: 1 })), None);
         assert_eq!(rt; refused(board.write(3, &[])), None);
         assert_eq!(rt; refused(board.write(3, &[0xAA])), Some(5));
         assert_eq!(rt; refused(board.write(3, &[0xAA; 6])), Some(4));
         assert_eq!(rt; refused(board.write(4, &[0xAA; 4])), None);
         assert_eq!(rt; refused(board.widen(1, 1)), Some(4));
         for _ in 1..8 {
-            assert_eq!(rt; refused(board.add(0, 0)), None);
+            assert_eq!(rt; refused(board.add(Range { start: 0, count: 0 })), None);
         }
-        assert_eq!(rt; refused(board.add(0, 0)), Some(7));
+        assert_eq!(rt; refused(board.add(Range { start: 0, count: 0 })), Some(7));
         assert_eq!(rt; memory, [0, 0, 0, 0, 0xAA, 0xAA, 0xAA, 0xAA]);
     }
 }

@@ -9,7 +9,8 @@ ghost use Rattle.window.specs.Windows.{base_result, window_image, window_lent, w
 use board::{Board, check_range};
 use datasheet::Refusal;
 
-// The cells of a board from an offset on, at most `count` of them, as far as they exist there.
+// The cells of a board from an offset on, at most `count` of them, as far as they exist there. The two numbers are kept
+// together by this struct itself.
 #[derive(Drop)]
 pub struct Window<B> {
     below: B,
@@ -47,6 +48,7 @@ impl<B: Board> Window<B> {
     }
 }
 
+// Each call says what the board below is afterwards (`below`): a contract speaks of one call.
 impl<B: Board> Board for Window<B> {
     ghost image = { window_image B.Board.image };
 

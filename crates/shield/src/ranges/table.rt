@@ -36,16 +36,16 @@ impl Ranges {
     }
 
     // Adds a range behind the others; a ninth is refused.
-    pub fn add(&mut self, start: usize, count: usize) -> Result<(), Refusal>
+    pub fn add(&mut self, range: Range) -> Result<(), Refusal>
         ensures answer { result ≡ (if nat_lt (length (ranges_of self.old)) 8 then Ok tt else Err ShieldFull) }
         ensures after { ranges_of self.new ≡
-            (if nat_lt (length (ranges_of self.old)) 8 then (ranges_of self.old ++ record { start = start; count = count } ∷ []) else ranges_of self.old) }
+            (if nat_lt (length (ranges_of self.old)) 8 then (ranges_of self.old ++ range ∷ []) else ranges_of self.old) }
     {
         // Tested first, for `get_mut` says nothing of the array after its borrow, and the proof needs the other ranges unchanged.
         if self.used >= self.ranges.len() {
             return Err(Refusal::ShieldFull);
         }
-        self.ranges[self.used] = Range { start, count };
+        self.ranges[self.used] = range;
         self.used += 1;
         Ok(())
     }
@@ -55,7 +55,8 @@ impl Ranges {
         ensures answer { result ≡ (if nat_lt i (length (ranges_of self.old)) then Ok tt else Err OutOfRange) }
         ensures after { ranges_of self.new ≡ widened_at (ranges_of self.old) i by }
     {
-        // Tested first, as in `add`; and no slice of a field beside an invariant can be lent to be changed.
+        // Tested first, as in `add`. Tried by `get_mut` on the ranges in use: a part of an array beside an invariant cannot be
+        // lent to be changed.
         if i >= self.used {
             return Err(Refusal::OutOfRange);
         }
@@ -70,11 +71,10 @@ impl Ranges {
         &self.ranges[..self.used]
     }
 
-    // The first place among `count` from `start` on that a range has: eight comparisons at the most.
-    pub(crate) fn first_in(&self, start: usize, count: usize) -> Option<usize>
-        ensures { result ≡ first_covered (ranges_of self.now) start count }
+    // The first place among those asked that a range has: eight comparisons at the most.
+    pub(crate) fn first_in(&self, asked: Range) -> Option<usize>
+        ensures { result ≡ first_covered (ranges_of self.now) asked.start asked.count }
     {
-        let asked = Range { start, count };
         self.in_use()
             .iter()
             .filter_map(|range| first_shared(range, &asked))

@@ -1,15 +1,8 @@
 use Rattle.std.proofs.Common.{length, sym, ap, is_some, ◌∙◌}
 use Rattle.image.specs.Lent.{both}
 use Rattle.join.proofs.Seams.{at_both}
-use Rattle.join.proofs.Halves.{parts, front_fits, second-told, free, write_answered, first-written, second-written, write-refused, first-left, second-left, both-written}
+use Rattle.join.proofs.Halves.{parts, second-told, free, write_answered, first-written, second-written, write-refused, first-left, second-left, both-written}
 use Rattle.join.proofs.JoinBoard.write.Goals as goal
-
-pub split_at-requires : goal.split_at-requires
-split_at-requires g c =
-    let w = c.args.self.now in
-    let told = c.in_ok-cut.ensures in
-    let h = parts (g.A.Board.image w.first) (g.B.Board.image w.second) c.args.start (length c.args.bytes.now) told.cut told.first told.second in
-    front_fits h
 
 pub returns-in_err-behind : goal.returns-in_err-behind
 returns-in_err-behind g c =

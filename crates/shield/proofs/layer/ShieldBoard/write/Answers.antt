@@ -1,39 +1,9 @@
-use Rattle.std.proofs.Common.{Err, sym, ap, ◌∙◌}
-use Rattle.std.proofs.lemmas.Result.{err_from_is_err_and}
+use Rattle.std.proofs.Common.{sym, ap, ◌∙◌}
 use Rattle.image.specs.Images.{Image}
 use Rattle.image.specs.Results.{write_result, written}
 use Rattle.shield.specs.Shields.{ranges_of}
-use Rattle.shield.proofs.Covers.{write-refused, fenced, passed, left-shown, left_below, shown-written, below-written}
+use Rattle.shield.proofs.Covers.{passed, shown-written, below-written}
 use Rattle.shield.proofs.layer.ShieldBoard.write.Goals as goal
-
-pub returns-in_err-first_fence : goal.returns-in_err-first_fence
-returns-in_err-first_fence g c =
-    let rs = ranges_of c.args.self.now.ranges in
-    let i = g.B.Board.image c.args.self.now.below in
-    let did = c.in_err-first_fence.ensures in
-    let p = err_from_is_err_and c.from_residual.result c.from_residual.ensures.1 in
-    let o = write-refused rs i c.args.start c.args.bytes.now _ did.answer in
-    record {
-      answer = p.1 ∙ ap Err p.2 ∙ sym o;
-      after = did.same ∙ left-shown rs i c.args.start c.args.bytes.now o;
-      lent = did.lent;
-      below = did.below ∙ left_below rs i c.args.start c.args.bytes.now o;
-      ranges = did.ranges;
-    }
-
-pub returns-then-is_some : goal.returns-then-is_some
-returns-then-is_some g c =
-    let rs = ranges_of c.args.self.now.ranges in
-    let i = g.B.Board.image c.args.self.now.below in
-    let did = c.in_ok-first_fence.ensures in
-    let o = fenced rs i c.args.start c.args.bytes.now did.answer c.if-is_some.ensures in
-    record {
-      answer = sym o;
-      after = did.same ∙ left-shown rs i c.args.start c.args.bytes.now o;
-      lent = did.lent;
-      below = did.below ∙ left_below rs i c.args.start c.args.bytes.now o;
-      ranges = did.ranges;
-    }
 
 pub returns-clause-answer : goal.returns-clause-answer
 returns-clause-answer g c =

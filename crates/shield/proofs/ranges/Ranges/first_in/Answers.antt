@@ -9,8 +9,8 @@ use Rattle.shield.proofs.ranges.Ranges.first_in.Goals as goal
 
 pub returns : goal.returns
 returns c =
-    let start = c.args.start in
-    let count = c.args.count in
+    let start = c.args.asked.start in
+    let count = c.args.asked.count in
     sym (option_map_id c.min.result)
     ∙ min_from_yields_List c.filter_map.result c.min.result c.min.ensures.ran
     (YieldsList-from_filter_map {s = c.filter_map.result} _ (λ (r : Range). first_covered (r ∷ []) start count) (YieldsList-from_slice (ranges_of c.args.self.now) (cc)) c.filter_map.ensures.closure (λ x r q k. search rules))
