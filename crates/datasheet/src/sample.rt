@@ -1,5 +1,5 @@
 ghost use Rattle.std.specs.Prelude.{◌≡◌, Ok};
-ghost use Rattle.datasheet.specs.Samples.{sample_of, byte_of};
+ghost use Rattle.datasheet.specs.Samples.{levels, sample_of, byte_of};
 
 use crate::refusal::Refusal;
 
@@ -15,19 +15,27 @@ pub struct Sample {
 
 impl Sample {
     // CS low, a session open: SCK and SI low, WP and HOLD high.
-    pub const SELECTED: Sample = Sample {
-        cs: false,
-        sck: false,
-        si: false,
-        wp: true,
-        hold: true,
-    };
+    pub fn selected() -> Sample
+        ensures { result ≡ levels 0x18 }
+    {
+        Sample {
+            cs: false,
+            sck: false,
+            si: false,
+            wp: true,
+            hold: true,
+        }
+    }
 
-    // CS high, no session open.
-    pub const DESELECTED: Sample = Sample {
-        cs: true,
-        ..Sample::SELECTED
-    };
+    // CS high, no session open; the others as before.
+    pub fn deselected() -> Sample
+        ensures { result ≡ levels 0x19 }
+    {
+        Sample {
+            cs: true,
+            ..Sample::selected()
+        }
+    }
 }
 
 // The levels that a byte stands for: bit 0 CS, bit 1 SCK, bit 2 SI, bit 3 WP, bit 4 HOLD.

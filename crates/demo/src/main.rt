@@ -12,10 +12,12 @@ use std::io;
 use window::Window;
 
 // HOLD low, with SCK low.
-const HELD: Sample = Sample {
-    hold: false,
-    ..Sample::SELECTED
-};
+fn held() -> Sample {
+    Sample {
+        hold: false,
+        ..Sample::selected()
+    }
+}
 
 // What SO shows after a sample; a refused sample drives nothing.
 fn put(chip: &mut Chip<'_>, sample: Sample) -> Level {
@@ -24,12 +26,12 @@ fn put(chip: &mut Chip<'_>, sample: Sample) -> Level {
 
 // CS falls: a session begins.
 fn select(chip: &mut Chip<'_>) {
-    let _ = put(chip, Sample::SELECTED);
+    let _ = put(chip, Sample::selected());
 }
 
 // CS rises: the session ends.
 fn deselect(chip: &mut Chip<'_>) {
-    let _ = put(chip, Sample::DESELECTED);
+    let _ = put(chip, Sample::deselected());
 }
 
 // The first `bits` bits of a byte, each a rise and a fall of SCK with SI at the bit. What SO shows at the rises is answered,
@@ -41,7 +43,7 @@ fn clock(chip: &mut Chip<'_>, byte: u8, bits: u8) -> u8 {
         let mask = 0x80u8 >> i;
         let fall = Sample {
             si: byte & mask != 0,
-            ..Sample::SELECTED
+            ..Sample::selected()
         };
         if put(chip, Sample { sck: true, ..fall }).bit() {
             read |= mask;
@@ -68,12 +70,18 @@ fn session(chip: &mut Chip<'_>, sent: &[u8], read: &mut [u8]) {
 // HOLD goes low, SCK runs on for some clocks that do not count, and HOLD is released with SCK low. Answers what SO showed
 // while HOLD was low.
 fn hold(chip: &mut Chip<'_>, clocks: u8) -> Level {
-    let mut shown = put(chip, HELD);
+    let mut shown = put(chip, held());
     for _ in 0..clocks {
-        let _ = put(chip, Sample { sck: true, ..HELD });
-        shown = put(chip, HELD);
+        let _ = put(
+            chip,
+            Sample {
+                sck: true,
+                ..held()
+            },
+        );
+        shown = put(chip, held());
     }
-    let _ = put(chip, Sample::SELECTED);
+    let _ = put(chip, Sample::selected());
     shown
 }
 

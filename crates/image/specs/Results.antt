@@ -15,7 +15,7 @@ fence_result i start count = cond (inside i start count) (Ok (fence_in i start c
 
 -- a read of count cells
 abbrev pub read_result : Image → ℕ → ℕ → Result (Unit {0}) Refusal
-read_result i start count = cond (inside i start count) (Ok tt) (Err OutOfRange)
+read_result i start count = range_result (length i) start count
 
 -- the caller's buffer after a read: filled, or as it was
 abbrev pub read_into : Image → ℕ → List ℕ → List ℕ

@@ -6,7 +6,8 @@ use Rattle.datasheet.specs.declared.part.Part.{Part}
 use Rattle.datasheet.specs.declared.part.Part.TheVariants.{Mb85rs64vy, Mb85rs128ty, Mb85rs256b}
 use Rattle.datasheet.specs.declared.sheet.Sheet.{Sheet}
 use Rattle.datasheet.specs.Bits.{bit}
-use Rattle.datasheet.specs.Sheets.{cells, marks64vy, marks128ty, marks256b}
+use Rattle.datasheet.specs.Parts.{density, marks}
+use Rattle.datasheet.specs.Sheets.{cells}
 use Rattle.datasheet.specs.Chips.{whole}
 use Rattle.datasheet.specs.Calls.{Chip, powered, run, answers}
 use Rattle.datasheet.specs.Mode0.{bits_of_bytes, session, read_at_rises}
@@ -18,11 +19,11 @@ use Rattle.trial.specs.declared.WindowCase.{WindowCase}
 use Rattle.trial.specs.declared.Case.{Case}
 use Rattle.trial.specs.declared.Case.TheVariants.{Pins, Window}
 
--- the sheets of the parts, with f 02h
+-- the sheets of the parts, with f 02h and the upper bits of t 0
 abbrev pub sheet_of : Part → Sheet
-sheet_of Mb85rs64vy = record { t = 0x03; f = 0x02; marks = marks64vy; known = (lit≤ tt, lit≤ tt) }
-sheet_of Mb85rs128ty = record { t = 0x04; f = 0x02; marks = marks128ty; known = (lit≤ tt, lit≤ tt) }
-sheet_of Mb85rs256b = record { t = 0x05; f = 0x02; marks = marks256b; known = (lit≤ tt, lit≤ tt) }
+sheet_of Mb85rs64vy = record { t = density Mb85rs64vy; f = 0x02; marks = marks Mb85rs64vy; known = (lit≤ tt, lit≤ tt) }
+sheet_of Mb85rs128ty = record { t = density Mb85rs128ty; f = 0x02; marks = marks Mb85rs128ty; known = (lit≤ tt, lit≤ tt) }
+sheet_of Mb85rs256b = record { t = density Mb85rs256b; f = 0x02; marks = marks Mb85rs256b; known = (lit≤ tt, lit≤ tt) }
 
 -- a memory of zeros
 abbrev pub zeros : Part → List ℕ

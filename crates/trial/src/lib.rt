@@ -276,7 +276,7 @@ mod tests {
             let mask = 0x80u8 >> i;
             let fall = Sample {
                 si: byte & mask != 0,
-                ..Sample::SELECTED
+                ..Sample::selected()
             };
             let rise = Sample { sck: true, ..fall };
             if chip.sample(u8::from(rise))?.bit() {
@@ -292,12 +292,12 @@ mod tests {
         let mut read = Vec::new(alloc);
         // the bits that are left, since the last byte may be cut
         let mut left = session.bits;
-        let _ = chip.sample(u8::from(Sample::SELECTED))?;
+        let _ = chip.sample(u8::from(Sample::selected()))?;
         for byte in session.bytes {
             read.push(clock(chip, *byte, left)?)?;
             left = left.saturating_sub(8);
         }
-        let _ = chip.sample(u8::from(Sample::DESELECTED))?;
+        let _ = chip.sample(u8::from(Sample::deselected()))?;
         Ok(read)
     }
 
