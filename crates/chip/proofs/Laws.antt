@@ -1,5 +1,5 @@
 -- The laws of chips, as the contracts of the code name them.
-use Rattle.std.proofs.Common.{◌≡◌, ℕ, ◌<◌, Bool, Decides, length, sym, ap, true-eqb, slice_index}
+use Rattle.std.proofs.Common.{◌≡◌, Bool, Decides, length, sym, ap, true-eqb}
 use Rattle.std.proofs.lemmas.Bool.Decides.{Decides-like}
 use Rattle.datasheet.specs.Sheets.{cells}
 use Rattle.datasheet.specs.Chips.{whole}
@@ -10,27 +10,23 @@ use Rattle.laws.proofs.Stays.{stays-fitted, stays-fitted-whole}
 use Rattle.chip.specs.declared.chip.Chip.{Chip}
 use Rattle.chip.specs.Views.{chip_of, record_of, pins_of, Resting}
 
--- its cells are bytes
-abbrev Bytes : Chip → Type 0
-Bytes c = (i : ℕ) → slice_index c.memory.now i < 256
-
 -- a resting chip is fitted, by what its type says
-fitted : (c : Chip) → Bytes c → Resting c → Fitted (chip_of c)
-fitted c b h =
+fitted : (c : Chip) → Resting c → Fitted (chip_of c)
+fitted c h =
     record {
       fit = h.0;
       size = true-eqb (length c.memory.now) (cells c.sheet) (sym h.0);
-      bytes = b;
+      bytes = c.bytes;
       stored-byte = c.status.stored.byte;
       stored-high = c.status.stored.high;
       still = c.status.still;
     }
 
 -- two resting chips of one sheet: whether their records are equal is whether no list of calls tells them apart
-pub told : (a b : Chip) (r : Bool) → Bytes a → Bytes b → Decides r (record_of a ≡ record_of b) →
+pub told : (a b : Chip) (r : Bool) → Decides r (record_of a ≡ record_of b) →
     Resting a → Resting b → a.sheet ≡ b.sheet → Decides r (Alike bounded (chip_of a) (chip_of b))
-told a b r ba bb d ha hb e =
-    let t = told-apart (chip_of a) (chip_of b) (fitted a ba ha) (fitted b bb hb) (ap pins_of ha.1) (ap pins_of hb.1) e in
+told a b r d ha hb e =
+    let t = told-apart (chip_of a) (chip_of b) (fitted a ha) (fitted b hb) (ap pins_of ha.1) (ap pins_of hb.1) e in
     Decides-like r t.0 t.1 d
 
 -- the law of chips, by the rules and as the code keeps a session

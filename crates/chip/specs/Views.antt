@@ -1,10 +1,12 @@
 -- What the chip of the code is, in the terms of the rules.
 use Rattle.std.specs.Prelude.{◌≡◌, true, length, Some, None, Option}
 use Rattle.datasheet.specs.declared.registers.Registers.{Registers}
+use Rattle.datasheet.specs.declared.level.Level.{Level}
 use Rattle.datasheet.specs.Sheets.{fits}
 use Rattle.datasheet.specs.Records.{Record}
 use Rattle.datasheet.specs.Chips.{Pins, deselected, selected}
 use Rattle.datasheet.specs.Calls.{Chip as ChipOfRules}
+use Rattle.spi.specs.Steps.{Moment}
 use Rattle.chip.specs.declared.session.Session.{Session}
 use Rattle.chip.specs.declared.chip.Chip.{Chip}
 use Rattle.chip.specs.Held.{held}
@@ -21,6 +23,10 @@ pins_of (Some x) = selected x.sck x.hold x.kept x.so
 -- the whole chip
 abbrev pub chip_of : Chip → ChipOfRules Registers
 chip_of c = record { sheet = c.sheet; fitted = fits c.sheet c.memory.now; rec = record_of c; pins = pins_of c.session }
+
+-- the moment that it is at in a session of which this is kept, while SO shows so
+abbrev pub moment_of : Chip → Registers → Level → Moment Registers
+moment_of c k so = record { rec = record_of c; kept = k; so = so }
 
 -- a resting chip is fitted and deselected
 abbrev pub Resting : Chip → Type 0

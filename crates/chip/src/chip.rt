@@ -1,3 +1,6 @@
+ghost use Rattle.std.specs.Prelude.{ℕ, ◌<◌, slice_index};
+
+mod bytes;
 mod compare;
 mod power;
 mod rules;
@@ -15,10 +18,12 @@ pub struct ParkedChip {
 }
 
 // A chip with power, over the memory that it was lent, and its session, if one is open. It is fitted if that memory fits
-// its sheet; else it is blank: its SO is always high-Z, and it changes nothing.
+// its sheet; else it is blank: its SO is always high-Z, and it changes nothing. `bytes` says again that the memory holds bytes,
+// since a clause about a chip behind a reference does not know it.
 pub struct Chip<'m> {
     memory: &'m mut [u8],
     sheet: Sheet,
     status: Status,
     session: Option<Session>,
+    ghost bytes: { (i : ℕ) → slice_index memory.now i < 256 },
 }

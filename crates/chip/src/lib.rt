@@ -2,8 +2,10 @@
 #![tactic(auto)]
 
 mod chip;
+mod pins;
 mod session;
 mod status;
 mod stored;
 
 pub use chip::{Chip, ParkedChip};
+pub use pins::{Pins, Steps};

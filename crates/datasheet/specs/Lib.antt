@@ -3,6 +3,7 @@ pub mod Levels
 pub mod Refusals
 pub mod Sheets
 pub mod Parts
+pub mod Memory
 pub mod Records
 pub mod Protection
 pub mod Commands

@@ -1,7 +1,10 @@
-// A visit told in text: what is done to a chip at its pins and to boards, and what comes out.
+// A visit told in text: what is done to a chip at its pins and over buses, and to boards, and what comes out.
 #![tactic(auto)]
 
+mod buses;
+
 use board::{Board, Plain};
+use buses::tell_buses;
 use chip::{Chip, ParkedChip};
 use datasheet::{Level, Part, Refusal, Sample, Sheet};
 use equality::compare;
@@ -216,7 +219,8 @@ impl Visit<'_, '_> {
         self.tell("  RDSR ", &[0x05, 0])?;
         self.chip.power_cycle();
         self.tell("  RDSR ", &[0x05, 0])?;
-        self.tell("  READ ", &[0x03, 0x01, 0x00, 0, 0, 0, 0, 0, 0, 0, 0])
+        self.tell("  READ ", &[0x03, 0x01, 0x00, 0, 0, 0, 0, 0, 0, 0, 0])?;
+        tell_buses(rt, self.chip)
     }
 }
 

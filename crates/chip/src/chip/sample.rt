@@ -53,7 +53,7 @@ impl Chip<'_> {
     }
 
     // Whether the memory fits the sheet.
-    fn is_fitted(&self) -> bool
+    pub(super) fn is_fitted(&self) -> bool
         ensures { result ≡ fits self.now.sheet self.now.memory.now }
     {
         self.sheet.check_memory(self.memory).is_ok()
@@ -70,7 +70,7 @@ impl Chip<'_> {
     }
 
     // The chip after a sample of these levels, and what SO shows then. A blank chip changes nothing, and its SO is high-Z.
-    fn put(&mut self, sample: Sample) -> Level
+    pub(crate) fn put(&mut self, sample: Sample) -> Level
         ensures shows { result ≡ so (put bounded (chip_of self.old) sample) }
         ensures state { chip_of self.new ≡ put bounded (chip_of self.old) sample }
         ensures sheet { self.new.sheet ≡ self.old.sheet }

@@ -1,0 +1,5 @@
+pub mod Reading
+pub mod Laws
+pub mod Meant
+pub mod Listed
+pub mod ByRules

@@ -1,0 +1,3 @@
+pub mod Settings
+pub mod Views
+pub mod Ways

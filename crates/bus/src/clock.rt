@@ -1,0 +1,76 @@
+// The samples of a byte, put one by one.
+ghost use Rattle.std.specs.Prelude.{◌≡◌, [], ◌∷◌};
+ghost use Rattle.datasheet.specs.Kept.{bounded};
+ghost use Rattle.spi.specs.Puts.{tracing, puts, shown_by};
+ghost use Rattle.spi.specs.Samples.{rest, at_rises, at_rise, clock_shows};
+ghost use Rattle.spi.specs.Lines.{byte_read};
+ghost use Rattle.bus.specs.Settings.{pause_by, clock_by, bit_by, byte_by};
+
+use crate::Setting;
+use chip::Pins;
+use datasheet::Level;
+use spi::Mode;
+
+// Puts the samples that hold, and the one that releases HOLD if there were any.
+fn pause<P: Pins>(pins: &mut P, setting: Setting, bit: bool)
+    ensures chip { P.Pins.chip pins.new ≡ puts bounded (P.Pins.chip pins.old) (pause_by setting bit) }
+    ensures traced { P.Pins.trace pins.new ≡ tracing P.Pins.traced (P.Pins.trace pins.old) (pause_by setting bit) }
+    ensures lent { P.Pins.lent pins.new ≡ P.Pins.lent pins.old }
+{
+    let held = setting.clock(bit, setting.mode.rest(), false);
+    for _i in 0..setting.waits {
+        let _ = pins.put(held);
+    }
+    if setting.waits > 0 {
+        let _ = pins.put(setting.clock(bit, setting.mode.rest(), true));
+    }
+}
+
+// Of what SO shows in the two samples of a bit's clock, that of the rise.
+fn at_rise(mode: Mode, first: Level, second: Level) -> Level
+    ensures { result ≡ at_rise mode first second }
+{
+    match mode {
+        Mode::Mode0 => first,
+        Mode::Mode3 => second,
+    }
+}
+
+// Moves SCK away from rest and back, and answers what SO shows at the rise.
+fn clock<P: Pins>(pins: &mut P, setting: Setting, bit: bool) -> Level
+    ensures chip { P.Pins.chip pins.new ≡ puts bounded (P.Pins.chip pins.old) (clock_by setting bit) }
+    ensures traced { P.Pins.trace pins.new ≡ tracing P.Pins.traced (P.Pins.trace pins.old) (clock_by setting bit) }
+    ensures shows { result ≡ clock_shows bounded setting.mode setting.wp (P.Pins.chip pins.old) bit }
+    ensures lent { P.Pins.lent pins.new ≡ P.Pins.lent pins.old }
+{
+    let away = pins.put(setting.clock(bit, !setting.mode.rest(), true));
+    let back = pins.put(setting.clock(bit, setting.mode.rest(), true));
+    at_rise(setting.mode, away, back)
+}
+
+// Puts a bit, and answers the one that is read at the rise.
+fn put_bit<P: Pins>(pins: &mut P, setting: Setting, bit: bool) -> bool
+    ensures chip { P.Pins.chip pins.new ≡ puts bounded (P.Pins.chip pins.old) (bit_by setting bit) }
+    ensures traced { P.Pins.trace pins.new ≡ tracing P.Pins.traced (P.Pins.trace pins.old) (bit_by setting bit) }
+    ensures read { at_rises (rest setting.mode) (bit_by setting bit)
+        (shown_by bounded (P.Pins.chip pins.old) (bit_by setting bit)) ≡ result ∷ [] }
+    ensures lent { P.Pins.lent pins.new ≡ P.Pins.lent pins.old }
+{
+    pause(pins, setting, bit);
+    clock(pins, setting, bit).bit()
+}
+
+// Puts the eight bits of a byte, the highest first, and answers the byte that is read.
+pub(crate) fn put_byte<P: Pins>(pins: &mut P, setting: Setting, byte: u8) -> u8
+    ensures chip { P.Pins.chip pins.new ≡ puts bounded (P.Pins.chip pins.old) (byte_by setting byte) }
+    ensures traced { P.Pins.trace pins.new ≡ tracing P.Pins.traced (P.Pins.trace pins.old) (byte_by setting byte) }
+    ensures read { result ≡ byte_read bounded setting.mode setting.wp (P.Pins.chip pins.old) (byte_by setting byte) }
+    ensures lent { P.Pins.lent pins.new ≡ P.Pins.lent pins.old }
+{
+    let mut read = 0u8;
+    for taken in 0..8u8 {
+        let bit = (byte >> (7 - taken)) % 2 == 1;
+        read = 2 * read + u8::from(put_bit(pins, setting, bit));
+    }
+    read
+}

@@ -1,0 +1,77 @@
+// Byte buses: what can be selected, exchange bytes and be deselected. A chip stepped by bytes, and a line that moves the pins.
+#![tactic(auto)]
+
+ghost use Rattle.std.specs.Prelude.{◌≡◌, true};
+ghost use Rattle.datasheet.specs.declared.registers.Registers.{Registers};
+ghost use Rattle.datasheet.specs.Kept.{bounded};
+ghost use Rattle.datasheet.specs.Memory.{SoundMemory};
+ghost use Rattle.spi.specs.Bytewise.{whole_session};
+ghost use Rattle.spi.specs.Buses.{Bus as BusOfRules, selected, exchanged, read, deselected};
+ghost use Rattle.spi.specs.Lent.{Lent, through};
+
+mod bytes;
+mod calls;
+mod clock;
+mod line;
+mod setting;
+mod visits;
+
+pub use bytes::ByteBus;
+pub use calls::perform;
+pub use line::Line;
+pub use setting::Setting;
+pub use visits::{Way, visit};
+
+// A bus means one chip, its session and a fixed level of WP. Each call answers and leaves what the definitions say of that.
+pub trait Bus {
+    // What it means.
+    ghost meaning: { Self → BusOfRules Registers };
+
+    // Its chip's memory holds bytes, and it is fitted exactly if these are as many as its sheet says.
+    ghost sound: { (s : Self) → SoundMemory (meaning s).sheet (meaning s).fitted (meaning s).rec.memory };
+
+    // Its session, if one is open, has a whole number of bytes.
+    ghost aligned: { (s : Self) → whole_session (meaning s).session ≡ true };
+
+    // The references through which its chip is reached: no call puts another in the place of one.
+    ghost lent: { Self → Lent };
+
+    // Begins a session if none is open.
+    fn select(&mut self)
+        ensures after { meaning self.new ≡ selected bounded (meaning self.old) }
+        ensures lent { lent self.new ≡ lent self.old };
+
+    // Sends a byte and answers the byte that is read; with no open session FFh, and nothing changes.
+    fn exchange(&mut self, byte: u8) -> u8
+        ensures read { result ≡ read bounded (meaning self.old) byte }
+        ensures after { meaning self.new ≡ exchanged bounded (meaning self.old) byte }
+        ensures lent { lent self.new ≡ lent self.old };
+
+    // Ends the session if there is one.
+    fn deselect(&mut self)
+        ensures after { meaning self.new ≡ deselected bounded (meaning self.old) }
+        ensures lent { lent self.new ≡ lent self.old };
+}
+
+// A bus that is lent is a bus.
+impl<B: Bus> Bus for &mut B {
+    ghost meaning = { λ s. B.Bus.meaning s.now };
+
+    ghost sound = { λ s. B.Bus.sound s.now };
+
+    ghost aligned = { λ s. B.Bus.aligned s.now };
+
+    ghost lent = { λ s. through s.ghost_name (B.Bus.lent s.now) };
+
+    fn select(&mut self) {
+        (**self).select()
+    }
+
+    fn exchange(&mut self, byte: u8) -> u8 {
+        (**self).exchange(byte)
+    }
+
+    fn deselect(&mut self) {
+        (**self).deselect()
+    }
+}

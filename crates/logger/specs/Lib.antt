@@ -1,0 +1,2 @@
+pub mod Logged
+pub mod Views

@@ -1,0 +1,64 @@
+// A logger: pins that log the samples which are put through them.
+#![tactic(auto)]
+
+ghost use Rattle.std.specs.Prelude.{◌≡◌, ◌≤◌, length, take};
+ghost use Rattle.logger.specs.Logged.{Logged, logging};
+
+use chip::Pins;
+use datasheet::{Level, Sample};
+
+// Pins with a buffer beside them, into which each sample is put before it goes on. When the buffer is full, no more is logged.
+#[derive(Drop)]
+pub struct Logger<'b, P> {
+    buffer: &'b mut [Sample],
+    pins: P,
+    count: usize,
+    ghost inside: { count ≤ length buffer.now },
+}
+
+impl<'b, P: Pins> Logger<'b, P> {
+    // A logger at these pins that has logged nothing.
+    pub fn new(pins: P, buffer: &'b mut [Sample]) -> Logger<'b, P>
+        ensures pins { result.pins ≡ pins }
+        ensures buffer { result.buffer.now ≡ buffer.old }
+        ensures count { result.count ≡ 0 }
+        ensures lent { result.buffer.ghost_name ≡ buffer.entry.ghost_name }
+    {
+        Logger {
+            buffer,
+            pins,
+            count: 0,
+        }
+    }
+
+    // The samples that it has logged.
+    pub fn logged(&self) -> &[Sample]
+        ensures { result.now ≡ take self.now.count self.now.buffer.now }
+    {
+        &self.buffer[..self.count]
+    }
+}
+
+impl<P: Pins> Pins for Logger<'_, P> {
+    ghost use Rattle.logger.specs.Views.{logged_by, logger_lent};
+
+    ghost chip = { λ s. P.Pins.chip s.pins };
+
+    ghost sound = { λ s. P.Pins.sound s.pins };
+
+    ghost Trace = { Logged };
+
+    ghost trace = { λ s. logged_by s };
+
+    ghost traced = { logging };
+
+    ghost lent = { λ s. logger_lent P.Pins.lent s };
+
+    fn put(&mut self, sample: Sample) -> Level {
+        if self.count < self.buffer.len() {
+            self.buffer[self.count] = sample;
+            self.count += 1;
+        }
+        self.pins.put(sample)
+    }
+}

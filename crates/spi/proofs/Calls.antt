@@ -1,0 +1,213 @@
+-- Each call at the pins does to what a line means what the call of a bus does; and so does any list of them.
+use Rattle.std.proofs.Common.{◌≡◌, ℕ, zero, suc, Bool, true, false, cond, List, [], ◌∷◌, ◌++◌, sym, refl, ap, ◌∙◌, ap₂, subst, rules}
+use Rattle.datasheet.specs.declared.sheet.Sheet.{Sheet}
+use Rattle.datasheet.specs.declared.level.Level.{Level}
+use Rattle.datasheet.specs.declared.level.Level.TheVariants.{HighZ}
+use Rattle.datasheet.specs.declared.sample.Sample.{Sample}
+use Rattle.datasheet.specs.Bits.{bits_of, number}
+use Rattle.datasheet.specs.Records.{Record}
+use Rattle.datasheet.specs.Chips.{Keeping, Pins, Pins.deselected, Pins.selected, whole}
+use Rattle.datasheet.specs.Calls.{Chip}
+use Rattle.datasheet.specs.Kept.{bounded}
+use Rattle.spi.specs.declared.mode.Mode.{Mode}
+use Rattle.spi.specs.declared.mode.Mode.TheVariants.{Mode0, Mode3}
+use Rattle.spi.specs.declared.bus_call.BusCall.{BusCall}
+use Rattle.spi.specs.declared.bus_call.BusCall.TheVariants.{Select, Exchange, Deselect}
+use Rattle.spi.specs.Puts.{puts}
+use Rattle.spi.specs.Samples.{rest, holding, releasing, clocking, bits_samples, byte_samples}
+use Rattle.spi.specs.Steps.{Moment, falling, steps, reads}
+use Rattle.spi.specs.Buses.{Bus, moment_in, after, answer, run, answers}
+use Rattle.spi.specs.Lines.{AtLine, line_made, line_after, line_answer, line_run, line_answers}
+use Rattle.spi.specs.Meanings.{chip_at, made, meaning_of, next_read, AtRest}
+use Rattle.spi.specs.Laws.{ByteAtPins, Follows, Makes, LineIsBus, Same}
+use Rattle.spi.proofs.Clock.{over, still, parts, left_by, bits-puts, bits-over, bits-next}
+
+pub unlike : false ≡ true → ⊥
+unlike e = search rules
+
+-- ## A byte
+
+pub byte-at-pins : (K : Keeping) → ByteAtPins K
+byte-at-pins K mode wp n s m so x e =
+    let start = λ (l : Level). steps K s wp (record { rec = m.rec; kept = m.kept; so = l }) (bits_of 8 x) in
+    let now = left_by K s mode wp n m.rec m.kept so (bits_of 8 x) in
+    let put = bits-puts K s mode wp n m.rec m.kept so (bits_of 8 x) ∙ ap (λ (l : Level). chip_at mode s (start l) now) e in
+    let read = bits-over K s mode wp n m.rec m.kept so (bits_of 8 x) ∙ ap (λ (l : Level). reads K s wp (record { rec = m.rec; kept = m.kept; so = l }) (bits_of 8 x)) e in
+    let next = subst (λ (l : Level). next_read K mode s (start l).rec (start l).kept now ≡ (start l).so) e (bits-next K s mode wp n m.rec m.kept so (bits_of 8 x)) in
+    ((now, put, next), read)
+
+-- behind a fall SO shows what it was set to
+steps-settled : (K : Keeping) (s : Sheet) (wp : Bool) (m : Moment K.Session) (bits : List Bool) →
+    m.so ≡ falling K s m.rec m.kept → (steps K s wp m bits).so ≡ falling K s (steps K s wp m bits).rec (steps K s wp m bits).kept
+steps-settled K s wp m [] e = e
+steps-settled K s wp m (b ∷ bs) e = steps-settled K s wp _ bs refl
+
+-- ## A blank chip
+
+module _ (K : Keeping) (s : Sheet) (r : Record) (p : Pins K.Session) where
+  abbrev pub blank : Chip K.Session
+  blank = record { sheet = s; fitted = false; rec = r; pins = p }
+
+  -- it changes nothing
+  pub blank-puts : (xs : List Sample) → puts K blank xs ≡ blank
+  blank-puts [] = refl
+  blank-puts (x ∷ xs) = blank-puts xs
+
+  module _ (mode : Mode) (wp : Bool) (n : ℕ) where
+    -- every bit is read as 1
+    blank-holds : (b : Bool) (i : ℕ) (ys : List Sample) →
+        over K blank (rest mode) (holding mode wp i b ++ ys) ≡ over K blank (rest mode) ys
+    blank-holds b zero ys = refl
+    blank-holds b (suc i) ys = still (rest mode) _ _ ∙ blank-holds b i ys
+
+    blank-releases : (b : Bool) (i : ℕ) (ys : List Sample) →
+        over K blank (rest mode) (releasing mode wp i b ++ ys) ≡ over K blank (rest mode) ys
+    blank-releases b zero ys = refl
+    blank-releases b (suc i) ys = still (rest mode) _ _
+
+    blank-clock : (other : Mode) (b : Bool) (ys : List Sample) →
+        over K blank (rest other) (clocking other wp b ++ ys) ≡ true ∷ over K blank (rest other) ys
+    blank-clock Mode0 b ys = refl
+    blank-clock Mode3 b ys = refl
+
+    abbrev pub ones : List Bool → List Bool
+    ones [] = []
+    ones (b ∷ bs) = true ∷ ones bs
+
+    pub blank-over : (bs : List Bool) → over K blank (rest mode) (bits_samples mode wp n bs) ≡ ones bs
+    blank-over [] = refl
+    blank-over (b ∷ bs) =
+        ap (over K blank (rest mode)) (parts mode wp n b (bits_samples mode wp n bs))
+        ∙ blank-holds b n _
+        ∙ blank-releases b n _
+        ∙ blank-clock mode b (bits_samples mode wp n bs)
+        ∙ ap (λ (bits : List Bool). true ∷ bits) (blank-over bs)
+
+-- ## Calls
+
+-- where no fall shows anything before the first bit
+module _ (K : Keeping) (quiet : (s : Sheet) (r : Record) → K.shows s r K.begin ≡ HighZ) where
+  dark : (s : Sheet) (r : Record) (a : Bool) → HighZ ≡ cond a HighZ (K.shows s r K.begin)
+  dark s r true = refl
+  dark s r false = sym (quiet s r)
+
+  module _ (s : Sheet) (wp : Bool) (n : ℕ) where
+    abbrev line : Bool → Record → Pins K.Session → Bool → AtLine K.Session
+    line f r p o = record { chip = record { sheet = s; fitted = f; rec = r; pins = p }; in_session = o }
+
+    -- what is to be shown of a call
+    abbrev Holds : Mode → AtLine K.Session → BusCall → Type 0
+    Holds mode l x =
+        AtRest K mode (line_after K mode wp n l x)
+        × (meaning_of K wp (line_after K mode wp n l x) ≡ after K (meaning_of K wp l) x)
+        × (line_answer K mode wp n l x ≡ answer K (meaning_of K wp l) x)
+
+    -- a fitted chip with no within session
+    begins : (mode : Mode) (r : Record) → next_read K mode s r K.begin HighZ ≡ falling K s r K.begin
+    begins Mode0 r = dark s r r.asleep
+    begins Mode3 r = refl
+
+    away : (mode : Mode) (r : Record) (x : BusCall) → Holds mode (line true r deselected false) x
+    away mode r Select = (λ e. (refl, refl, refl, begins mode r), refl, refl)
+    away mode r (Exchange x) = (λ e. refl, refl, refl)
+    away mode r Deselect = (λ e. refl, refl, refl)
+
+    -- a fitted chip in a session, between two bytes
+    module _ (mode : Mode) (r : Record) (k : K.Session) (so : Level) (h : next_read K mode s r k so ≡ falling K s r k) where
+      abbrev within : AtLine K.Session
+      within = line true r (selected (rest mode) true k so) true
+
+      byte : (x : ℕ) → Holds mode within (Exchange x)
+      byte x =
+          let m : Moment K.Session = moment_in K (meaning_of K wp within) k in
+          let did = byte-at-pins K mode wp n s m so x h in
+          let after : Moment K.Session = steps K s wp m (bits_of 8 x) in
+          let now = did.0.0 in
+          let settled = did.0.2 ∙ steps-settled K s wp m (bits_of 8 x) refl in
+          let back : Chip K.Session → AtLine K.Session = λ c. record { chip = c; in_session = true } in (
+            subst (λ (c : Chip K.Session). AtRest K mode (back c)) (sym did.0.1) (λ e. (refl, refl, refl, settled)),
+            ap (λ (c : Chip K.Session). meaning_of K wp (back c)) did.0.1,
+            ap (λ (bits : List Bool). Exchange (number bits)) did.1,
+          )
+
+      inside : (x : BusCall) → Holds mode within x
+      inside Select = (λ e. (refl, refl, refl, h), refl, refl)
+      inside (Exchange x) = byte x
+      inside Deselect = (λ e. refl, refl, refl)
+
+    -- a blank chip
+    blank-call : (mode : Mode) (r : Record) (p : Pins K.Session) (o : Bool) (x : BusCall) → Holds mode (line false r p o) x
+    blank-call mode r p true Select = (λ e. absurd (unlike e), refl, refl)
+    blank-call mode r p false Select = (λ e. absurd (unlike e), refl, refl)
+    blank-call mode r p false (Exchange x) = (λ e. absurd (unlike e), refl, refl)
+    blank-call mode r p true (Exchange x) =
+        let same = blank-puts K s r p (byte_samples mode wp n x) in
+        let back : Chip K.Session → AtLine K.Session = λ c. record { chip = c; in_session = true } in (
+          subst (λ (c : Chip K.Session). AtRest K mode (back c)) (sym same) (λ e. absurd (unlike e)),
+          ap (λ (c : Chip K.Session). meaning_of K wp (back c)) same,
+          ap (λ (bits : List Bool). Exchange (number bits)) (blank-over K s r p mode wp n (bits_of 8 x)),
+        )
+    blank-call mode r p true Deselect = (λ e. absurd (unlike e), refl, refl)
+    blank-call mode r p false Deselect = (λ e. absurd (unlike e), refl, refl)
+
+    any : (mode : Mode) (f : Bool) (r : Record) (p : Pins K.Session) (o : Bool) (x : BusCall) → AtRest K mode (line f r p o) → Holds mode (line f r p o) x
+    any mode false r p o x h = blank-call mode r p o x
+    any mode true r deselected false x h = away mode r x
+    any mode true r deselected true x h = absurd (unlike (sym (h refl)))
+    any mode true r (selected sck hold k so) false x h = absurd (unlike (h refl).0)
+    any mode true r (selected sck hold k so) true x h =
+        let e = h refl in
+        subst (λ (t : Bool). Holds mode (line true r (selected t hold k so) true) x) (sym e.1)
+        (subst (λ (t : Bool). Holds mode (line true r (selected (rest mode) t k so) true) x) (sym e.2) (inside mode r k so e.3 x))
+
+  follows : Follows K
+  follows mode wp n l x h = any l.chip.sheet wp n mode l.chip.fitted l.chip.rec l.chip.pins l.in_session x h
+
+-- a chip that CS high has deselected
+pub makes : (K : Keeping) → Makes K
+makes K mode wp c = any c.sheet c.fitted c.rec c.pins
+  where
+    any : (s : Sheet) (f : Bool) (r : Record) (p : Pins K.Session) →
+        let c : Chip K.Session = record { sheet = s; fitted = f; rec = r; pins = p } in
+        AtRest K mode (line_made K mode wp c) × (meaning_of K wp (line_made K mode wp c) ≡ made K wp c)
+    any s true r deselected = (λ e. refl, refl)
+    any s true r (selected sck hold k so) = (λ e. refl, refl)
+    any s false r deselected = (λ e. absurd (unlike e), refl)
+    any s false r (selected sck hold k so) = (λ e. absurd (unlike e), refl)
+
+-- ## Lists of calls
+
+module _ (K : Keeping) (follow : Follows K) where
+  -- any list of calls is that of a bus
+  lists : (mode : Mode) (wp : Bool) (n : ℕ) (l : AtLine K.Session) (xs : List BusCall) → AtRest K mode l →
+      (line_answers K mode wp n l xs ≡ answers K (meaning_of K wp l) xs)
+      × (meaning_of K wp (line_run K mode wp n l xs) ≡ run K (meaning_of K wp l) xs)
+  lists mode wp n l [] h = (refl, refl)
+  lists mode wp n l (x ∷ xs) h =
+      let f = follow mode wp n l x h in
+      let t = lists mode wp n (line_after K mode wp n l x) xs f.0 in (
+        ap₂ (λ (a : BusCall) (as' : List BusCall). a ∷ as') f.2 (t.0 ∙ ap (λ (b : Bus K.Session). answers K b xs) f.1),
+        t.1 ∙ ap (λ (b : Bus K.Session). run K b xs) f.1,
+      )
+
+  pub line-is-bus : LineIsBus K
+  line-is-bus mode wp n c xs =
+      let made-so = makes K mode wp c in
+      let t = lists mode wp n (line_made K mode wp c) xs made-so.0 in (
+        t.0 ∙ ap (λ (b : Bus K.Session). answers K b xs) made-so.1,
+        t.1 ∙ ap (λ (b : Bus K.Session). run K b xs) made-so.1,
+      )
+
+  pub same : Same K
+  same mode other wp n i l m xs g h e =
+      let t = lists mode wp n l xs g in
+      let u = lists other wp i m xs h in (
+        t.0 ∙ ap (λ (b : Bus K.Session). answers K b xs) e ∙ sym u.0,
+        t.1 ∙ ap (λ (b : Bus K.Session). run K b xs) e ∙ sym u.1,
+      )
+
+pub follows-whole : Follows whole
+follows-whole = follows whole (λ s r. refl)
+
+pub follows-bounded : Follows bounded
+follows-bounded = follows bounded (λ s r. refl)

@@ -1,0 +1,169 @@
+-- What the samples of bits do to a chip in a session, and what is read in them.
+use Rattle.std.proofs.Common.{◌≡◌, ℕ, zero, suc, Bool, true, false, List, [], ◌∷◌, ◌++◌, sym, refl, ap, ◌∙◌, subst}
+use Rattle.std.proofs.lemmas.List.{append_assoc}
+use Rattle.datasheet.specs.declared.sheet.Sheet.{Sheet}
+use Rattle.datasheet.specs.declared.level.Level.{Level}
+use Rattle.datasheet.specs.declared.sample.Sample.{Sample}
+use Rattle.datasheet.specs.Levels.{read_as}
+use Rattle.datasheet.specs.Records.{Record}
+use Rattle.datasheet.specs.Chips.{Keeping, selected}
+use Rattle.datasheet.specs.Calls.{Chip}
+use Rattle.spi.specs.declared.mode.Mode.{Mode}
+use Rattle.spi.specs.declared.mode.Mode.TheVariants.{Mode0, Mode3}
+use Rattle.spi.specs.Puts.{puts, shown_by}
+use Rattle.spi.specs.Samples.{rest, clock, holding, releasing, clocking, bit_samples, bits_samples, read_at, at_rises}
+use Rattle.spi.specs.Meanings.{next_read}
+use Rattle.spi.specs.Steps.{Moment, falling, rising, keeping, step, steps, reads}
+
+-- no rise, nothing read
+pub still : (sck : Bool) (l : Level) (bits : List Bool) → read_at sck sck l bits ≡ bits
+still true l bits = refl
+still false l bits = refl
+
+-- the parts of a bit's samples, and what follows them
+pub parts : (mode : Mode) (wp : Bool) (n : ℕ) (b : Bool) (ys : List Sample) →
+    bit_samples mode wp n b ++ ys ≡ holding mode wp n b ++ (releasing mode wp n b ++ (clocking mode wp b ++ ys))
+parts mode wp n b ys =
+    append_assoc (holding mode wp n b) (releasing mode wp n b ++ clocking mode wp b) ys
+    ∙ ap (λ (xs : List Sample). holding mode wp n b ++ xs) (append_assoc (releasing mode wp n b) (clocking mode wp b) ys)
+
+module _ (K : Keeping) where
+  -- what is read in samples, SCK having been at this level
+  abbrev pub over : Chip K.Session → Bool → List Sample → List Bool
+  over c sck xs = at_rises sck xs (shown_by K c xs)
+
+  -- ## A fitted chip
+
+  module _ (s : Sheet) (mode : Mode) (wp : Bool) where
+    -- in a session, SCK at rest
+    abbrev pub chip_at : Record → Bool → K.Session → Level → Chip K.Session
+    chip_at r hold k l = record { sheet = s; fitted = true; rec = r; pins = selected (rest mode) hold k l }
+
+    abbrev pub moment_at : Record → K.Session → Level → Moment K.Session
+    moment_at r k l = record { rec = r; kept = k; so = next_read K mode s r k l }
+
+    -- what SO shows after the clock of a bit
+    abbrev pub left : Mode → Record → K.Session → Bool → Level
+    left Mode0 r k b = falling K s (rising K s wp r k b) (keeping K s wp r k b)
+    left Mode3 r k b = falling K s r k
+
+    module _ (b : Bool) (r : Record) (k : K.Session) (l : Level) where
+      abbrev at : Bool → Chip K.Session
+      at hold = chip_at r hold k l
+
+      -- samples that hold change nothing but HOLD
+      holds-puts : (n : ℕ) (ys : List Sample) → puts K (at false) (holding mode wp n b ++ ys) ≡ puts K (at false) ys
+      holds-puts zero ys = refl
+      holds-puts (suc n) ys = holds-puts n ys
+
+      holds-over : (n : ℕ) (ys : List Sample) → over (at false) (rest mode) (holding mode wp n b ++ ys) ≡ over (at false) (rest mode) ys
+      holds-over zero ys = refl
+      holds-over (suc n) ys = still (rest mode) _ _ ∙ holds-over n ys
+
+      -- the samples that hold and the one that releases change nothing and read nothing
+      paused-puts : (n : ℕ) (ys : List Sample) →
+          puts K (at true) (holding mode wp n b ++ (releasing mode wp n b ++ ys)) ≡ puts K (at true) ys
+      paused-puts zero ys = refl
+      paused-puts (suc n) ys = holds-puts n (clock mode wp b (rest mode) true ∷ ys)
+
+      paused-over : (n : ℕ) (ys : List Sample) →
+          over (at true) (rest mode) (holding mode wp n b ++ (releasing mode wp n b ++ ys)) ≡ over (at true) (rest mode) ys
+      paused-over zero ys = refl
+      paused-over (suc n) ys =
+          still (rest mode) _ _ ∙ holds-over n (clock mode wp b (rest mode) true ∷ ys) ∙ still (rest mode) _ _
+
+  abbrev rec : List ℕ → ℕ → Bool → Bool → Record
+  rec m st w a = record { memory = m; stored = st; latch = w; asleep = a }
+
+  -- SCK away from rest and back
+  module _ (s : Sheet) (wp b : Bool) (m : List ℕ) (st : ℕ) (w : Bool) (k : K.Session) (l : Level) (ys : List Sample) where
+    abbrev after-bit : Mode → Record → Chip K.Session
+    after-bit mode r = chip_at s mode wp (rising K s wp r k b) true (keeping K s wp r k b) (left s mode wp mode r k b)
+
+    clock-puts : (mode : Mode) (a : Bool) →
+        let r : Record = rec m st w a in
+        puts K (chip_at s mode wp r true k l) (clocking mode wp b ++ ys) ≡ puts K (after-bit mode r) ys
+    clock-puts Mode0 true = refl
+    clock-puts Mode0 false = refl
+    clock-puts Mode3 true = refl
+    clock-puts Mode3 false = refl
+
+    clock-over : (mode : Mode) (a : Bool) →
+        let r : Record = rec m st w a in
+        over (chip_at s mode wp r true k l) (rest mode) (clocking mode wp b ++ ys)
+        ≡ read_as (next_read K mode s r k l) ∷ over (after-bit mode r) (rest mode) ys
+    clock-over Mode0 true = refl
+    clock-over Mode0 false = refl
+    clock-over Mode3 true = refl
+    clock-over Mode3 false = refl
+
+  module _ (s : Sheet) (mode : Mode) (wp : Bool) (n : ℕ) where
+    -- one bit
+    bit-puts : (r : Record) (k : K.Session) (l : Level) (b : Bool) (ys : List Sample) →
+        puts K (chip_at s mode wp r true k l) (bit_samples mode wp n b ++ ys)
+        ≡ puts K (chip_at s mode wp (rising K s wp r k b) true (keeping K s wp r k b) (left s mode wp mode r k b)) ys
+    bit-puts r k l b ys =
+        ap (puts K (chip_at s mode wp r true k l)) (parts mode wp n b ys)
+        ∙ paused-puts s mode wp b r k l n (clocking mode wp b ++ ys)
+        ∙ clock-puts s wp b r.memory r.stored r.latch k l ys mode r.asleep
+
+    bit-over : (r : Record) (k : K.Session) (l : Level) (b : Bool) (ys : List Sample) →
+        over (chip_at s mode wp r true k l) (rest mode) (bit_samples mode wp n b ++ ys)
+        ≡ read_as (next_read K mode s r k l)
+        ∷ over (chip_at s mode wp (rising K s wp r k b) true (keeping K s wp r k b) (left s mode wp mode r k b)) (rest mode) ys
+    bit-over r k l b ys =
+        ap (over (chip_at s mode wp r true k l) (rest mode)) (parts mode wp n b ys)
+        ∙ paused-over s mode wp b r k l n (clocking mode wp b ++ ys)
+        ∙ clock-over s wp b r.memory r.stored r.latch k l ys mode r.asleep
+
+    -- it is a step
+    step-moment : (other : Mode) (r : Record) (k : K.Session) (l : Level) (b : Bool) →
+        step K s wp (moment_at s other wp r k l) b
+        ≡ moment_at s other wp (rising K s wp r k b) (keeping K s wp r k b) (left s other wp other r k b)
+    step-moment Mode0 r k l b = refl
+    step-moment Mode3 r k l b = refl
+
+    -- several bits
+    abbrev pub left_by : Record → K.Session → Level → List Bool → Level
+    left_by r k l [] = l
+    left_by r k l (b ∷ bs) = left_by (rising K s wp r k b) (keeping K s wp r k b) (left s mode wp mode r k b) bs
+
+    -- the chip in a session at this moment, SO showing l
+    abbrev pub chip_in : Moment K.Session → Level → Chip K.Session
+    chip_in m l = chip_at s mode wp m.rec true m.kept l
+
+    pub bits-puts : (r : Record) (k : K.Session) (l : Level) (bs : List Bool) →
+        puts K (chip_at s mode wp r true k l) (bits_samples mode wp n bs)
+        ≡ chip_in (steps K s wp (moment_at s mode wp r k l) bs) (left_by r k l bs)
+    bits-puts r k l [] = refl
+    bits-puts r k l (b ∷ bs) =
+        let r' = rising K s wp r k b in
+        let k' = keeping K s wp r k b in
+        let l' = left s mode wp mode r k b in
+        bit-puts r k l b (bits_samples mode wp n bs)
+        ∙ bits-puts r' k' l' bs
+        ∙ ap (λ (m : Moment K.Session). chip_in (steps K s wp m bs) (left_by r' k' l' bs)) (sym (step-moment mode r k l b))
+
+    pub bits-over : (r : Record) (k : K.Session) (l : Level) (bs : List Bool) →
+        over (chip_at s mode wp r true k l) (rest mode) (bits_samples mode wp n bs) ≡ reads K s wp (moment_at s mode wp r k l) bs
+    bits-over r k l [] = refl
+    bits-over r k l (b ∷ bs) =
+        let r' = rising K s wp r k b in
+        let k' = keeping K s wp r k b in
+        let l' = left s mode wp mode r k b in
+        bit-over r k l b (bits_samples mode wp n bs)
+        ∙ ap (λ (bits : List Bool). read_as (next_read K mode s r k l) ∷ bits)
+        (bits-over r' k' l' bs ∙ ap (λ (m : Moment K.Session). reads K s wp m bs) (sym (step-moment mode r k l b)))
+
+    -- what the next rise reads then
+    pub bits-next : (r : Record) (k : K.Session) (l : Level) (bs : List Bool) →
+        let m : Moment K.Session = steps K s wp (moment_at s mode wp r k l) bs in
+        next_read K mode s m.rec m.kept (left_by r k l bs) ≡ m.so
+    bits-next r k l [] = refl
+    bits-next r k l (b ∷ bs) =
+        let r' = rising K s wp r k b in
+        let k' = keeping K s wp r k b in
+        let l' = left s mode wp mode r k b in
+        let e = λ (m : Moment K.Session).
+        next_read K mode s (steps K s wp m bs).rec (steps K s wp m bs).kept (left_by r' k' l' bs) ≡ (steps K s wp m bs).so in
+        subst e (sym (step-moment mode r k l b)) (bits-next r' k' l' bs)

@@ -1,0 +1,13 @@
+pub mod Clock
+pub mod Calls
+pub mod Keeps
+pub mod Whole
+pub mod AsCalls
+pub mod Sessions
+pub mod Pieces
+pub mod Rests
+pub mod Bytewise
+pub mod Stepping
+pub mod Stepped
+pub mod Blank
+pub mod Aligned

@@ -1,0 +1,10 @@
+pub mod Lent
+pub mod Puts
+pub mod Samples
+pub mod Steps
+pub mod Bytewise
+pub mod Buses
+pub mod Lines
+pub mod Meanings
+pub mod Stepping
+pub mod Laws
