@@ -1,36 +1,46 @@
--- A list of calls made one by one: the first i are answered.
-use Rattle.std.proofs.Common.{◌≡◌, ℕ, ◌+◌, ◌<◌, ◌≤◌, List, [], ◌∷◌, ◌++◌, length, get_or, take, drop, set, sym, ap, ◌∙◌, ap₂, arith}
+-- A list gone through one by one, where each element is replaced by its answer: the first i are answered.
+use Rattle.std.proofs.Common.{◌≡◌, ℕ, ◌+◌, ◌<◌, ◌≤◌, List, [], ◌∷◌, ◌++◌, length, get_or, take, drop, set, sym, refl, ap, ◌∙◌, ap₂, arith}
 use Rattle.std.proofs.lemmas.List.{append_assoc, append-nil, take_all, take_more_set, drop-set-lt, at_drop_more, at_drop_all}
-use Rattle.datasheet.specs.declared.registers.Registers.{Registers}
-use Rattle.datasheet.specs.Kept.{bounded}
-use Rattle.spi.specs.declared.bus_call.BusCall.{BusCall}
-use Rattle.spi.specs.Buses.{Bus, after, answer, run, answers}
 
-module _ (b d : Bus Registers) (xs : List BusCall) (i : ℕ) (x a : BusCall) (l : i < length xs)
-    (is : a ≡ answer bounded b (get_or xs i x)) (then : d ≡ after bounded b (get_or xs i x)) where
-  left : drop (i + 1) (set xs i a) ≡ drop (i + 1) xs
-  left = drop-set-lt (i + 1) xs i a (omega arith)
+-- what goes through a list: a state, what an element makes of it and is answered, and the same for lists
+pub record Going {M X : Type 0} (after : M → X → M) (answer : M → X → X) (run : M → List X → M) (answers : M → List X → List X) : Type 0 where
+  pub stays : (m : M) → run m [] ≡ m
+  pub runs : (m : M) (x : X) (xs : List X) → run m (x ∷ xs) ≡ run (after m x) xs
+  pub ends : (m : M) → answers m [] ≡ []
+  pub answered : (m : M) (x : X) (xs : List X) → answers m (x ∷ xs) ≡ answer m x ∷ answers (after m x) xs
 
-  pub one_more : (end : Bus Registers) → run bounded b (drop i xs) ≡ end → run bounded d (drop (i + 1) (set xs i a)) ≡ end
-  one_more end h =
-      ap₂ (λ (y : Bus Registers) (ys : List BusCall). run bounded y ys) then left ∙ sym (at_drop_more (run bounded b) xs i x l) ∙ h
+module _ {M X : Type 0} (after : M → X → M) (answer : M → X → X) (run : M → List X → M) (answers : M → List X → List X)
+    (goes : Going after answer run answers) where
+  -- one more, whose answer is put in its place or not
+  module _ (b d : M) (xs : List X) (i : ℕ) (x : X) (l : i < length xs) (then : d ≡ after b (get_or xs i x)) where
+    pub one_on : (end : M) → run b (drop i xs) ≡ end → run d (drop (i + 1) xs) ≡ end
+    one_on end h =
+        ap (λ (y : M). run y (drop (i + 1) xs)) then
+        ∙ sym (goes.runs b (get_or xs i x) (drop (i + 1) xs)) ∙ sym (at_drop_more (run b) xs i x l) ∙ h
 
-  pub one-answered : (all : List BusCall) → take i xs ++ answers bounded b (drop i xs) ≡ all →
-      take (i + 1) (set xs i a) ++ answers bounded d (drop (i + 1) (set xs i a)) ≡ all
-  one-answered all h =
-      ap₂ (λ (zs ys : List BusCall). zs ++ answers bounded d ys) (take_more_set xs i a l) left
-      ∙ append_assoc (take i xs) (a ∷ []) (answers bounded d (drop (i + 1) xs))
-      ∙ ap₂ (λ (y : BusCall) (z : Bus Registers). take i xs ++ y ∷ answers bounded z (drop (i + 1) xs)) is then
-      ∙ ap (λ (ys : List BusCall). take i xs ++ ys) (sym (at_drop_more (answers bounded b) xs i x l))
-      ∙ h
+    module _ (a : X) (is : a ≡ answer b (get_or xs i x)) where
+      left : drop (i + 1) (set xs i a) ≡ drop (i + 1) xs
+      left = drop-set-lt (i + 1) xs i a (omega arith)
 
--- none is left
-module _ (b : Bus Registers) (xs : List BusCall) (i : ℕ) (l : length xs ≤ i) where
-  pub all_made : (end : Bus Registers) → run bounded b (drop i xs) ≡ end → b ≡ end
-  all_made end h = sym (at_drop_all (run bounded b) xs i l) ∙ h
+      pub one_more : (end : M) → run b (drop i xs) ≡ end → run d (drop (i + 1) (set xs i a)) ≡ end
+      one_more end h = ap (run d) left ∙ one_on end h
 
-  pub all-answered : (all : List BusCall) → take i xs ++ answers bounded b (drop i xs) ≡ all → xs ≡ all
-  all-answered all h =
-      sym (append-nil xs)
-      ∙ ap₂ (λ (ys zs : List BusCall). ys ++ zs) (sym (take_all i xs l)) (sym (at_drop_all (answers bounded b) xs i l))
-      ∙ h
+      pub one-answered : (all : List X) → take i xs ++ answers b (drop i xs) ≡ all →
+          take (i + 1) (set xs i a) ++ answers d (drop (i + 1) (set xs i a)) ≡ all
+      one-answered all h =
+          ap₂ (λ (zs ys : List X). zs ++ answers d ys) (take_more_set xs i a l) left
+          ∙ append_assoc (take i xs) (a ∷ []) (answers d (drop (i + 1) xs))
+          ∙ ap₂ (λ (y : X) (z : M). take i xs ++ y ∷ answers z (drop (i + 1) xs)) is then
+          ∙ ap (λ (ys : List X). take i xs ++ ys) (sym (goes.answered b (get_or xs i x) (drop (i + 1) xs)) ∙ sym (at_drop_more (answers b) xs i x l))
+          ∙ h
+
+  -- none is left
+  module _ (b : M) (xs : List X) (i : ℕ) (l : length xs ≤ i) where
+    pub all_made : (end : M) → run b (drop i xs) ≡ end → b ≡ end
+    all_made end h = sym (goes.stays b) ∙ sym (at_drop_all (run b) xs i l) ∙ h
+
+    pub all-answered : (all : List X) → take i xs ++ answers b (drop i xs) ≡ all → xs ≡ all
+    all-answered all h =
+        sym (append-nil xs)
+        ∙ ap₂ (λ (ys zs : List X). ys ++ zs) (sym (take_all i xs l)) (sym (at_drop_all (answers b) xs i l ∙ goes.ends b))
+        ∙ h

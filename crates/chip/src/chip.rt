@@ -1,6 +1,5 @@
 ghost use Rattle.std.specs.Prelude.{ℕ, ◌<◌, slice_index};
 
-mod bytes;
 mod compare;
 mod power;
 mod rules;
@@ -26,4 +25,16 @@ pub struct Chip<'m> {
     status: Status,
     session: Option<Session>,
     ghost bytes: { (i : ℕ) → slice_index memory.now i < 256 },
+}
+
+impl Chip<'_> {
+    ghost use Rattle.std.specs.Prelude.{◌≡◌};
+    ghost use Rattle.datasheet.specs.Sheets.{fits};
+
+    // Whether the memory fits the sheet.
+    fn is_fitted(&self) -> bool
+        ensures { result ≡ fits self.now.sheet self.now.memory.now }
+    {
+        self.sheet.check_memory(self.memory).is_ok()
+    }
 }

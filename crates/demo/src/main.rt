@@ -2,12 +2,14 @@
 #![tactic(auto)]
 
 mod buses;
+mod drivers;
 
 use board::{Board, Plain};
 use buses::tell_buses;
 use chip::{Chip, ParkedChip};
 use datasheet::{Level, Part, Refusal, Sample, Sheet};
-use equality::compare;
+use drivers::tell_drivers;
+use equality::{Same, compare};
 use image::Range;
 use join::Join;
 use shield::Shield;
@@ -244,7 +246,8 @@ fn two_chips(rt: &HostRuntime, first: &mut Chip<'_>, second: &mut Chip<'_>) -> i
     session(second, &[0xB9], &mut []);
     let chips = Chips { first, second };
     tell_apart(rt, chips)?;
-    piles(rt, chips)
+    piles(rt, chips)?;
+    tell_drivers(rt, chips)
 }
 
 // Two chips that are compared.
@@ -290,6 +293,19 @@ fn tell_board<B: Board>(rt: &HostRuntime, board: &mut B) -> io::Result<()> {
     }
 }
 
+// Prints what a comparison says of two boards.
+fn tell_same_boards(rt: &HostRuntime, same: Same) -> io::Result<()> {
+    if same.boards {
+        println!(rt;
+            "  the boards: equal, no list of size, fence question, read and write tells them apart"
+        )
+    } else {
+        println!(rt;
+            "  the boards: unequal, some list of size, fence question, read and write tells them apart"
+        )
+    }
+}
+
 // Compares two boards, beside two chips, and prints what came out.
 fn tell_equal<P: Board, Q: Board>(
     rt: &HostRuntime,
@@ -303,15 +319,7 @@ fn tell_equal<P: Board, Q: Board>(
     } else {
         println!(rt; "  the chips: unequal")?;
     }
-    if same.boards {
-        println!(rt;
-            "  the boards: equal, no list of size, fence question, read and write tells them apart"
-        )
-    } else {
-        println!(rt;
-            "  the boards: unequal, some list of size, fence question, read and write tells them apart"
-        )
-    }
+    tell_same_boards(rt, same)
 }
 
 // Writes to a shielded board, and widens a range of the shield.

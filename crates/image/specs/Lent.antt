@@ -1,7 +1,8 @@
 -- What a board was given when it was made, itself or those below it: the references that it was lent, the bounds of its
--- windows and the ranges of its shields. No call of a board puts another in the place of one.
+-- windows and the ranges of its shields, and what the bus of a driver was given. No call of a board puts another in the place of one.
 use Rattle.std.specs.Prelude.{ℕ, List}
 use Rattle.std.specs.Borrow.{GName}
+use Rattle.spi.specs.Lent.{Lent as LentToBus}
 use Rattle.image.specs.declared.Range.{Range}
 
 pub data Lent : Type 0 where
@@ -17,3 +18,5 @@ pub data Lent : Type 0 where
   seen : ℕ → ℕ → Lent → Lent
   -- the ranges of a shield, over a board that was given this
   under : List Range → Lent → Lent
+  -- what a bus was given
+  bus : LentToBus → Lent

@@ -8,6 +8,8 @@ ghost use Rattle.datasheet.specs.Kept.{taken, rise_kept, fall_kept};
 ghost use Rattle.datasheet.specs.declared.level.Level.TheVariants.{HighZ};
 ghost use Rattle.chip.specs.Views.{record_of, SameButRecord};
 
+mod bytes;
+
 use super::Chip;
 use crate::stored::StoredBits;
 use datasheet::{Command, Level, Registers, Sample};
@@ -28,7 +30,7 @@ fn completes(n: u8) -> bool
 }
 
 // The byte in a cell.
-pub(super) fn cell(memory: &[u8], place: u16) -> u8
+fn cell(memory: &[u8], place: u16) -> u8
     ensures { result ≡ slice_index memory.now place }
 {
     memory.get(usize::from(place)).copied().unwrap_or(0)
@@ -48,7 +50,7 @@ fn write_cell(memory: &mut [u8], place: u16, byte: u8)
 impl Chip<'_> {
     // What the last bit of a session does in a chip that is awake: `taken` is what is kept with that bit, and `place` the
     // cell of the data byte that it may complete.
-    pub(super) fn obey(&mut self, wp: bool, taken: Registers, place: u16)
+    fn obey(&mut self, wp: bool, taken: Registers, place: u16)
         requires { self.old.status.asleep ≡ false }
         ensures rec { record_of self.new ≡ effect self.old.sheet (command_at self.old.sheet taken.count taken.code)
             wp (record_of self.old) taken.count place taken.shift }

@@ -1,6 +1,5 @@
 // A sample put to the pins.
 ghost use Rattle.std.specs.Prelude.{◌≡◌, ◌≤◌, length};
-ghost use Rattle.datasheet.specs.Sheets.{fits};
 ghost use Rattle.datasheet.specs.Chips.{whole, turn, judged, output};
 ghost use Rattle.datasheet.specs.Calls.{so, put, sampled, answered};
 ghost use Rattle.datasheet.specs.Kept.{bounded};
@@ -50,13 +49,6 @@ impl Chip<'_> {
             kept,
             so,
         });
-    }
-
-    // Whether the memory fits the sheet.
-    pub(super) fn is_fitted(&self) -> bool
-        ensures { result ≡ fits self.now.sheet self.now.memory.now }
-    {
-        self.sheet.check_memory(self.memory).is_ok()
     }
 
     // SO, as far as it is driven.

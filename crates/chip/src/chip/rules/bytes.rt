@@ -6,8 +6,8 @@ ghost use Rattle.spi.specs.Bytewise.{whole_bytes, taken_byte, record_after, show
 ghost use Rattle.spi.specs.Stepping.{stepped_once, read_once};
 ghost use Rattle.chip.specs.Views.{record_of, chip_of, moment_of, SameButRecord};
 
-use super::Chip;
-use super::rules::cell;
+use super::cell;
+use crate::chip::Chip;
 use crate::session::Session;
 use datasheet::{Command, Level, Registers, Sheet};
 use spi::NOT_DRIVEN;

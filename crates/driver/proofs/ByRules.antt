@@ -1,0 +1,31 @@
+-- What a transfer comes to, by the rules over the full list of bits.
+use Rattle.std.proofs.Common.{◌≡◌, ℕ, Bool, cond, List, None, refl, ap, ◌∙◌}
+use Rattle.datasheet.specs.declared.registers.Registers.{Registers}
+use Rattle.datasheet.specs.declared.sheet.Sheet.{Sheet}
+use Rattle.datasheet.specs.Records.{Record, waking}
+use Rattle.datasheet.specs.Chips.{Pins, Pins.deselected, Pins.selected, whole}
+use Rattle.datasheet.specs.Calls.{Chip, powered, run}
+use Rattle.datasheet.specs.Kept.{bounded, kept_chip}
+use Rattle.laws.proofs.Follow.{enough}
+use Rattle.laws.proofs.Simulation.{end_same}
+use Rattle.spi.specs.Meanings.{made}
+use Rattle.spi.specs.Laws.{kept_bus}
+use Rattle.driver.specs.Left.{samples, left_by}
+
+-- a bus made over a chip that keeps what is needed
+made-kept : (wp : Bool) (s : Sheet) (f : Bool) (r : Record) (p : Pins (List Bool)) →
+    let d : Chip (List Bool) = record { sheet = s; fitted = f; rec = r; pins = p } in
+    made bounded wp (kept_chip d) ≡ kept_bus (made whole wp d)
+made-kept wp s f r deselected = refl
+made-kept wp s f r (selected sck hold bits so) =
+    ap (λ (q : Record). record { sheet = s; wp = wp; fitted = f; rec = cond f (cond r.asleep (waking r) q) r; session = None }) (end_same s r bits)
+
+-- from power on, through these samples, to the bus of a line
+pub found_kept : (s : Sheet) (memory : List ℕ) (stored : ℕ) (before : List ℕ) (wp : Bool) (c e : Chip Registers) →
+    c ≡ powered s memory stored → e ≡ run bounded c (samples before) → made bounded wp e ≡ kept_bus (left_by s memory stored before wp)
+unfolding left_by
+found_kept s memory stored before wp c e h k =
+    let fresh : Chip (List Bool) = powered s memory stored in
+    let left : Chip (List Bool) = run whole fresh (samples before) in
+    ap (made bounded wp) (k ∙ ap (λ (d : Chip Registers). run bounded d (samples before)) h ∙ (enough fresh (samples before)).1)
+    ∙ made-kept wp left.sheet left.fitted left.rec left.pins

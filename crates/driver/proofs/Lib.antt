@@ -1,0 +1,10 @@
+pub mod Cells
+pub mod Exchanged
+pub mod BytesMoved
+pub mod WholeSessions
+pub mod Asked
+pub mod Surveyed
+pub mod Moved
+pub mod Answered
+pub mod ByRules
+pub mod Known

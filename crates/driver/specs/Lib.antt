@@ -1,0 +1,4 @@
+pub mod Exchanges
+pub mod Drives
+pub mod Left
+pub mod Views
