@@ -1,16 +1,20 @@
 -- What a transfer comes to, by the rules over the full list of bits.
-use Rattle.std.proofs.Common.{◌≡◌, ℕ, Bool, cond, List, None, refl, ap, ◌∙◌}
+use Rattle.std.proofs.Common.{◌≡◌, ℕ, Bool, cond, List, length, None, Result, refl, ap, ◌∙◌}
 use Rattle.datasheet.specs.declared.registers.Registers.{Registers}
 use Rattle.datasheet.specs.declared.sheet.Sheet.{Sheet}
+use Rattle.datasheet.specs.declared.refusal.Refusal.{Refusal}
 use Rattle.datasheet.specs.Records.{Record, waking}
 use Rattle.datasheet.specs.Chips.{Pins, Pins.deselected, Pins.selected, whole}
 use Rattle.datasheet.specs.Calls.{Chip, powered, run}
 use Rattle.datasheet.specs.Kept.{bounded, kept_chip}
 use Rattle.laws.proofs.Follow.{enough}
 use Rattle.laws.proofs.Simulation.{end_same}
+use Rattle.spi.specs.Buses.{Bus}
 use Rattle.spi.specs.Meanings.{made}
+use Rattle.image.specs.Results.{read_result, read_into, write_result}
 use Rattle.spi.specs.Laws.{kept_bus}
 use Rattle.driver.specs.Left.{samples, left_by}
+use Rattle.driver.specs.Drives.{image_of, after_write}
 
 -- a bus made over a chip that keeps what is needed
 made-kept : (wp : Bool) (s : Sheet) (f : Bool) (r : Record) (p : Pins (List Bool)) →
@@ -29,3 +33,17 @@ found_kept s memory stored before wp c e h k =
     let left : Chip (List Bool) = run whole fresh (samples before) in
     ap (made bounded wp) (k ∙ ap (λ (d : Chip Registers). run bounded d (samples before)) h ∙ (enough fresh (samples before)).1)
     ∙ made-kept wp left.sheet left.fitted left.rec left.pins
+
+-- what a write and a read came to over a bus is what they come to over one that means the same
+pub same_bus : {b c : Bus Registers} (start : ℕ) (bytes buffer : List ℕ) {new : List ℕ} {written read : Result (Unit {0}) Refusal} → b ≡ c →
+    written ≡ write_result (image_of b) start bytes →
+    read ≡ read_result (image_of (after_write b start bytes)) start (length buffer) →
+    new ≡ read_into (image_of (after_write b start bytes)) start buffer →
+    (written ≡ write_result (image_of c) start bytes)
+    × (read ≡ read_result (image_of (after_write c start bytes)) start (length buffer))
+    × (new ≡ read_into (image_of (after_write c start bytes)) start buffer)
+same_bus start bytes buffer e w r n = (
+  w ∙ ap (λ (b : Bus Registers). write_result (image_of b) start bytes) e,
+  r ∙ ap (λ (b : Bus Registers). read_result (image_of (after_write b start bytes)) start (length buffer)) e,
+  n ∙ ap (λ (b : Bus Registers). read_into (image_of (after_write b start bytes)) start buffer) e,
+)

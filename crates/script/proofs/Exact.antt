@@ -1,88 +1,123 @@
--- A script is read as calls exactly if it is their bytes, and refused exactly for its first fault.
-use Rattle.std.proofs.Common.{◌≡◌, ℕ, zero, suc, ◌-◌, List, [], ◌∷◌, ◌++◌, length, sym, refl, ap, ◌∙◌, subst, append_assoc, append-nil, arith, length-append}
+-- A script is read as calls exactly if it is a row of whole steps that stand for them, and refused exactly for its first fault.
+use Rattle.std.proofs.Common.{◌≡◌, ℕ, zero, suc, ◌+◌, ◌-◌, ◌≤◌, Bool, true, false, leb, List, [], ◌∷◌, ◌++◌, map, length, get_or, take, drop, Some, None, Option, sym, refl, ap, ◌∙◌, subst, append_assoc, append-nil, arith, length-append, length-drop}
+use Rattle.std.proofs.lemmas.List.{take-append-drop, length-take-le, get_or-take, get_or_append_left}
+use Rattle.std.proofs.Math.Seq.{take-append_seam, drop-append_seam}
 use Rattle.datasheet.specs.declared.refusal.Refusal.{Refusal}
 use Rattle.datasheet.specs.declared.refusal.Refusal.TheVariants.{UnknownKind, ShortStep}
-use Rattle.datasheet.specs.Calls.{Call, Call.sample, cycle}
-use Rattle.script.specs.Steps.{step, chip_step}
+use Rattle.script.specs.Steps.{Kinds, step, first}
 use Rattle.script.specs.Reading.{Reading, reads, stops, read_script}
 use Rattle.script.specs.Views.{ahead}
-use Rattle.script.specs.Laws.{step_bytes, row_bytes, UnknownAt, ShortAt, ReadsExactly}
-use Rattle.script.proofs.Ahead.{counted_all, counted_more, rest_read, row_ahead, ahead-reads, ahead-stops, chip-ahead}
+use Rattle.script.specs.Laws.{row, IsStep, AreSteps, UnknownAt, ShortAt, ReadsExactly}
+use Rattle.script.proofs.Ahead.{rest_read, row_ahead, ahead-reads, ahead-stops, step_ahead, unknown_first, short_first}
+use Rattle.script.proofs.Found.{whole_step, unknown_kind, short_step}
 
--- what the first bytes are read as
-first-call : (x : Call) (rest : List ℕ) → step x rest ≡ chip_step (step_bytes x ++ rest)
-first-call (sample b) rest = grind arith
-first-call cycle rest = grind arith
+module _ {C : Type 0} (kinds : Kinds C) where
+  -- what a whole step in front is read as
+  first-step : (s rest : List ℕ) → IsStep kinds s → step (kinds.call s) rest ≡ first kinds (s ++ rest)
+  first-step s rest (body, knows, long) =
+      whole_step kinds body (s ++ rest) rest (kinds.call s)
+      (ap kinds.body (get_or_append_left s rest 0 0 (omega (arith, long))) ∙ knows)
+      (omega (arith, long, length-append s rest))
+      (ap kinds.call (sym (take-append_seam s rest) ∙ ap (λ (n : ℕ). take n (s ++ rest)) long))
+      (sym (drop-append_seam s rest) ∙ ap (λ (n : ℕ). drop n (s ++ rest)) long)
 
--- the bytes of calls at the front are read as those calls
-row_read : (total : ℕ) (calls : List Call) (rest : List ℕ) → rest_read total (row_bytes calls ++ rest) ≡ row_ahead calls (rest_read total rest)
-row_read total [] rest = refl
-row_read total (x ∷ calls) rest =
-    let behind = row_bytes calls ++ rest in
-    ap (rest_read total) (append_assoc (step_bytes x) (row_bytes calls) rest)
-    ∙ chip-ahead total (step_bytes x ++ behind) behind x (first-call x behind)
-    ∙ ap (ahead x) (row_read total calls rest)
+  -- whole steps at the front are read as their calls
+  row_read : (total : ℕ) (steps : List (List ℕ)) (rest : List ℕ) → AreSteps kinds steps →
+      rest_read kinds total (row steps ++ rest) ≡ row_ahead (map kinds.call steps) (rest_read kinds total rest)
+  row_read total [] rest are = refl
+  row_read total (s ∷ steps) rest (is, are) =
+      ap (rest_read kinds total) (append_assoc s (row steps) rest)
+      ∙ step_ahead kinds total (s ++ (row steps ++ rest)) (row steps ++ rest) (kinds.call s) (first-step s (row steps ++ rest) is)
+      ∙ ap (ahead (kinds.call s)) (row_read total steps rest are)
 
-read_behind : (all rest : List ℕ) (calls : List Call) → all ≡ row_bytes calls ++ rest → read_script chip_step all ≡ row_ahead calls (rest_read (length all) rest)
-read_behind all rest calls e = ap (rest_read (length all)) e ∙ row_read (length all) calls rest
+  read_behind : (all rest : List ℕ) (steps : List (List ℕ)) → AreSteps kinds steps → all ≡ row steps ++ rest →
+      read_script kinds all ≡ row_ahead (map kinds.call steps) (rest_read kinds (length all) rest)
+  read_behind all rest steps are e = ap (rest_read kinds (length all)) e ∙ row_read (length all) steps rest are
 
--- a fault behind a row of calls stops the reading
-fault_read : (all rest : List ℕ) (calls : List Call) (e : Refusal) → rest_read (length all) rest ≡ stops e → all ≡ row_bytes calls ++ rest → read_script chip_step all ≡ stops e
-fault_read all rest calls e is at = read_behind all rest calls at ∙ ap (row_ahead calls) is ∙ ahead-stops calls e
+  -- a fault behind whole steps stops the reading
+  fault_read : (all rest : List ℕ) (steps : List (List ℕ)) (e : Refusal) → AreSteps kinds steps → rest_read kinds (length all) rest ≡ stops e → all ≡ row steps ++ rest →
+      read_script kinds all ≡ stops e
+  fault_read all rest steps e are is at = read_behind all rest steps are at ∙ ap (row_ahead (map kinds.call steps)) is ∙ ahead-stops (map kinds.call steps) e
 
--- a kind that is not known stops it at its place
-unknown_read : (total kind : ℕ) (rest : List ℕ) → (kind ≡ 1 → ⊥) → (kind ≡ 2 → ⊥) → rest_read total (kind ∷ rest) ≡ stops (UnknownKind (total - length (kind ∷ rest)))
-unknown_read total kind rest h k = grind arith
+  place_is : (all rest : List ℕ) (steps : List (List ℕ)) (place : ℕ) → all ≡ row steps ++ rest → place ≡ length (row steps) → length all - length rest ≡ place
+  place_is all rest steps place e at = omega (arith, ap length e, length-append (row steps) rest)
 
-place_is : (all rest : List ℕ) (calls : List Call) (place : ℕ) → all ≡ row_bytes calls ++ rest → place ≡ length (row_bytes calls) → length all - length rest ≡ place
-place_is all rest calls place e at = omega (arith, ap length e, length-append (row_bytes calls) rest)
+  -- what a script is, for each way to read it
+  data Is (script : List ℕ) : Reading C → Type 0 where
+    whole : (steps : List (List ℕ)) → AreSteps kinds steps → script ≡ row steps → Is script (reads (map kinds.call steps))
+    odd : {place : ℕ} → UnknownAt kinds script place → Is script (stops (UnknownKind place))
+    cut : {place : ℕ} → ShortAt kinds script place → Is script (stops (ShortStep place))
 
--- what a script is, for each way to read it
-data Is (script : List ℕ) : Reading Call → Type 0 where
-  row : {calls : List Call} → script ≡ row_bytes calls → Is script (reads calls)
-  odd : {place : ℕ} → UnknownAt script place → Is script (stops (UnknownKind place))
-  cut : {place : ℕ} → ShortAt script place → Is script (stops (ShortStep place))
+  is_whole : {script : List ℕ} {calls : List C} → Is script (reads calls) → (steps : List (List ℕ)) × AreSteps kinds steps × (script ≡ row steps) × (calls ≡ map kinds.call steps)
+  is_whole (whole steps are e) = (steps, are, e, refl)
 
-is_row : {script : List ℕ} {calls : List Call} → Is script (reads calls) → script ≡ row_bytes calls
-is_row (row h) = h
+  is_odd : {script : List ℕ} {place : ℕ} → Is script (stops (UnknownKind place)) → UnknownAt kinds script place
+  is_odd (odd h) = h
 
-is_odd : {script : List ℕ} {place : ℕ} → Is script (stops (UnknownKind place)) → UnknownAt script place
-is_odd (odd h) = h
+  is_cut : {script : List ℕ} {place : ℕ} → Is script (stops (ShortStep place)) → ShortAt kinds script place
+  is_cut (cut h) = h
 
-is_cut : {script : List ℕ} {place : ℕ} → Is script (stops (ShortStep place)) → ShortAt script place
-is_cut (cut h) = h
+  -- what it is decides how it is read
+  is_read : {script : List ℕ} {r : Reading C} → Is script r → read_script kinds script ≡ r
+  is_read {script} (whole steps are e) =
+      read_behind script [] steps are (e ∙ sym (append-nil (row steps))) ∙ ahead-reads (map kinds.call steps) [] ∙ ap reads (append-nil (map kinds.call steps))
+  is_read {script} (odd {place} (steps, kind, rest, are, e, at, knows)) =
+      fault_read script (kind ∷ rest) steps (UnknownKind place) are
+      (unknown_first kinds (length script) (kind ∷ rest) (unknown_kind kinds (kind ∷ rest) knows) (omega arith)
+      ∙ ap (λ (n : ℕ). stops (UnknownKind n)) (place_is script (kind ∷ rest) steps place e at)) e
+  is_read {script} (cut {place} (steps, kind, rest, body, are, e, at, knows, few)) =
+      fault_read script (kind ∷ rest) steps (ShortStep place) are
+      (short_first kinds (length script) (kind ∷ rest) (short_step kinds body (kind ∷ rest) knows (omega (arith, few))) (omega arith)
+      ∙ ap (λ (n : ℕ). stops (ShortStep n)) (place_is script (kind ∷ rest) steps place e at)) e
 
--- what it is decides how it is read
-is_read : {script : List ℕ} {r : Reading Call} → Is script r → read_script chip_step script ≡ r
-is_read {script} (row {calls} e) = read_behind script [] calls (e ∙ sym (append-nil (row_bytes calls))) ∙ ahead-reads calls [] ∙ ap reads (append-nil calls)
-is_read {script} (odd {place} (calls, kind, rest, e, at, h, k)) =
-    fault_read script (kind ∷ rest) calls (UnknownKind place)
-    (unknown_read (length script) kind rest h k ∙ ap (λ (n : ℕ). stops (UnknownKind n)) (place_is script (kind ∷ rest) calls place e at)) e
-is_read {script} (cut {place} (calls, e, at)) =
-    fault_read script (1 ∷ []) calls (ShortStep place) (ap (λ (n : ℕ). stops (ShortStep n)) (place_is script (1 ∷ []) calls place e at)) e
+  -- every script is one of the three
+  row_more : (past : List (List ℕ)) (s rest : List ℕ) → row past ++ (s ++ rest) ≡ row (past ++ s ∷ []) ++ rest
+  row_more [] s rest = ap (λ (t : List ℕ). t ++ rest) (sym (append-nil s))
+  row_more (t ∷ past) s rest =
+      append_assoc t (row past) (s ++ rest) ∙ ap (λ (u : List ℕ). t ++ u) (row_more past s rest) ∙ sym (append_assoc t (row (past ++ s ∷ [])) rest)
 
--- every script is one of the three
-row_more : (past : List Call) (x : Call) (rest : List ℕ) → row_bytes past ++ (step_bytes x ++ rest) ≡ row_bytes (past ++ x ∷ []) ++ rest
-row_more [] x rest = simp append-nil
-row_more (y ∷ past) x rest = simp (append_assoc, row_more past x rest)
+  are_more : (past : List (List ℕ)) (s : List ℕ) → AreSteps kinds past → IsStep kinds s → AreSteps kinds (past ++ s ∷ [])
+  are_more [] s are is = (is, tt)
+  are_more (t ∷ past) s (is_t, are) is = (is_t, are_more past s are is)
 
-what-is : {script : List ℕ} (past : List Call) (rest : List ℕ) → script ≡ row_bytes past ++ rest → (r : Reading Call) × Is script r
-what-is past [] e = (reads past, row (e ∙ append-nil (row_bytes past)))
-what-is past (zero ∷ rest) e = (_, odd (past, _, rest, e, refl, (λ h. omega arith), (λ h. omega arith)))
-what-is past (suc zero ∷ []) e = (_, cut (past, e, refl))
-what-is past (suc zero ∷ b ∷ rest) e = what-is (past ++ sample b ∷ []) rest (e ∙ row_more past (sample b) rest)
-what-is past (suc (suc zero) ∷ rest) e = what-is (past ++ cycle ∷ []) rest (e ∙ row_more past cycle rest)
-what-is past (suc (suc (suc k)) ∷ rest) e = (_, odd (past, _, rest, e, refl, (λ h. omega arith), (λ h. omega arith)))
+  take_first : (n kind : ℕ) (rest : List ℕ) → get_or (take (1 + n) (kind ∷ rest)) 0 0 ≡ kind
+  take_first n kind rest = get_or-take (1 + n) (kind ∷ rest) 0 0 (omega arith)
 
-read_is : (script : List ℕ) {r : Reading Call} → read_script chip_step script ≡ r → Is script r
-read_is script e = let w = what-is [] script refl in subst (Is script) (sym (is_read w.1) ∙ e) w.1
+  abbrev Known : List ℕ → Type 0
+  Known script = (r : Reading C) × Is script r
 
-pub reads_exactly : ReadsExactly
-reads_exactly =
-    record {
-      whole = λ script calls. ((λ e. is_row (read_is script e)), (λ h. is_read (row h)));
-      unknown = λ script place. ((λ e. is_odd (read_is script e)), (λ h. is_read (odd h)));
-      short = λ script place. ((λ e. is_cut (read_is script e)), (λ h. is_read (cut h)));
-    }
+  -- a step more, if the script has it whole
+  with-body : {script : List ℕ} (past : List (List ℕ)) (kind : ℕ) (rest : List ℕ) → AreSteps kinds past → script ≡ row past ++ kind ∷ rest →
+      (body : ℕ) → kinds.body kind ≡ Some body → (long : Bool) → leb (1 + body) (length (kind ∷ rest)) ≡ long →
+      ((past' : List (List ℕ)) (rest' : List ℕ) → AreSteps kinds past' → script ≡ row past' ++ rest' → length rest' ≤ length rest → Known script) → Known script
+  with-body past kind rest are e body knows false few on = (_, cut (past, kind, rest, body, are, e, refl, knows, grind arith))
+  with-body past kind rest are e body knows true long on =
+      let s = take (1 + body) (kind ∷ rest) in
+      let more = drop (1 + body) (kind ∷ rest) in
+      on (past ++ s ∷ []) more
+      (are_more past s are (body, ap kinds.body (take_first body kind rest) ∙ knows, length-take-le (1 + body) (kind ∷ rest) (grind arith)))
+      (e ∙ ap (λ (t : List ℕ). row past ++ t) (sym (take-append-drop (1 + body) (kind ∷ rest))) ∙ row_more past s more)
+      (omega (arith, length-drop (1 + body) (kind ∷ rest)))
 
-pub ruleset counting = (reads_exactly, counted_all, counted_more)
+  by-kind : {script : List ℕ} (past : List (List ℕ)) (kind : ℕ) (rest : List ℕ) → AreSteps kinds past → script ≡ row past ++ kind ∷ rest →
+      (o : Option ℕ) → kinds.body kind ≡ o →
+      ((past' : List (List ℕ)) (rest' : List ℕ) → AreSteps kinds past' → script ≡ row past' ++ rest' → length rest' ≤ length rest → Known script) → Known script
+  by-kind past kind rest are e None knows on = (_, odd (past, kind, rest, are, e, refl, knows))
+  by-kind past kind rest are e (Some body) knows on = with-body past kind rest are e body knows (leb (1 + body) (length (kind ∷ rest))) refl on
+
+  what-is : {script : List ℕ} (most : ℕ) (past : List (List ℕ)) (rest : List ℕ) → AreSteps kinds past → script ≡ row past ++ rest → length rest ≤ most → Known script
+  what-is most past [] are e few = (_, whole past are (e ∙ append-nil (row past)))
+  what-is zero past (kind ∷ rest) are e few = absurd (omega arith)
+  what-is (suc most) past (kind ∷ rest) are e few =
+      by-kind past kind rest are e (kinds.body kind) refl (λ past' rest' are' e' few'. what-is most past' rest' are' e' (omega (arith, few, few')))
+
+  read_is : (script : List ℕ) {r : Reading C} → read_script kinds script ≡ r → Is script r
+  read_is script e = let w = what-is (length script) [] script tt refl (omega arith) in subst (Is script) (sym (is_read w.1) ∙ e) w.1
+
+  pub reads_exactly : ReadsExactly kinds
+  reads_exactly =
+      record {
+        whole = λ script calls. ((λ e. is_whole (read_is script e)), (λ h. is_read (subst (λ (cs : List C). Is script (reads cs)) (sym h.3) (whole h.0 h.1 h.2))));
+        unknown = λ script place. ((λ e. is_odd (read_is script e)), (λ h. is_read (odd h)));
+        short = λ script place. ((λ e. is_cut (read_is script e)), (λ h. is_read (cut h)));
+      }

@@ -1,4 +1,7 @@
 pub mod Ahead
+pub mod Found
 pub mod Exact
+pub mod Fences
 pub mod Going
+pub mod Outcomes
 pub mod Whole

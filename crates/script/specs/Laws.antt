@@ -1,34 +1,40 @@
 -- The law of reading: what a script is.
-use Rattle.std.specs.Prelude.{◌≡◌, ℕ, ◌↔◌, List, [], ◌∷◌, ◌++◌, length, ◌≢◌}
+use Rattle.std.specs.Prelude.{◌≡◌, ℕ, ◌+◌, ◌<◌, ◌↔◌, List, [], ◌∷◌, ◌++◌, map, length, Some, None, slice_index}
 use Rattle.datasheet.specs.declared.refusal.Refusal.TheVariants.{UnknownKind, ShortStep}
-use Rattle.datasheet.specs.Calls.{Call, Call.sample, cycle}
-use Rattle.script.specs.Steps.{chip_step}
+use Rattle.script.specs.Steps.{Kinds}
 use Rattle.script.specs.Reading.{reads, stops, read_script}
 
--- the bytes of a step: its kind, then its body
-abbrev pub step_bytes : Call → List ℕ
-step_bytes (sample byte) = 1 ∷ byte ∷ []
-step_bytes cycle = 2 ∷ []
+-- the bytes of steps, one behind the other
+abbrev pub row : List (List ℕ) → List ℕ
+row [] = []
+row (s ∷ steps) = s ++ row steps
 
--- the bytes of a row of steps
-abbrev pub row_bytes : List Call → List ℕ
-row_bytes [] = []
-row_bytes (x ∷ rest) = step_bytes x ++ row_bytes rest
+module _ {C : Type 0} (kinds : Kinds C) where
+  -- a whole step: a kind that the run knows, then a body of its length
+  abbrev pub IsStep : List ℕ → Type 0
+  IsStep bytes = (body : ℕ) × (kinds.body (slice_index bytes 0) ≡ Some body) × (length bytes ≡ 1 + body)
 
--- behind a row of steps stands a kind that the run does not know, at this place
-abbrev pub UnknownAt : List ℕ → ℕ → Type 0
-UnknownAt script place =
-    (calls : List Call) × (kind : ℕ) × (rest : List ℕ)
-    × (script ≡ row_bytes calls ++ kind ∷ rest) × (place ≡ length (row_bytes calls)) × (kind ≢ 1) × (kind ≢ 2)
+  -- whole steps
+  abbrev pub AreSteps : List (List ℕ) → Type 0
+  AreSteps [] = Unit {0}
+  AreSteps (s ∷ steps) = IsStep s × AreSteps steps
 
--- behind a row of steps the script ends with the kind of a sample, at this place
-abbrev pub ShortAt : List ℕ → ℕ → Type 0
-ShortAt script place =
-    (calls : List Call) × (script ≡ row_bytes calls ++ 1 ∷ []) × (place ≡ length (row_bytes calls))
+  -- behind a row of whole steps stands a kind that the run does not know, at this place
+  abbrev pub UnknownAt : List ℕ → ℕ → Type 0
+  UnknownAt script place =
+      (steps : List (List ℕ)) × (kind : ℕ) × (rest : List ℕ)
+      × AreSteps steps × (script ≡ row steps ++ kind ∷ rest) × (place ≡ length (row steps)) × (kinds.body kind ≡ None)
 
--- A script is read as these calls exactly if it is the bytes of their steps. It is refused with a place exactly if a fault
--- stands at that place behind a row of whole steps: a kind that the run does not know, or a step that the script ends inside.
-pub record ReadsExactly : Type 0 where
-  pub whole : (script : List ℕ) (calls : List Call) → (read_script chip_step script ≡ reads calls) ↔ (script ≡ row_bytes calls)
-  pub unknown : (script : List ℕ) (place : ℕ) → (read_script chip_step script ≡ stops (UnknownKind place)) ↔ UnknownAt script place
-  pub short : (script : List ℕ) (place : ℕ) → (read_script chip_step script ≡ stops (ShortStep place)) ↔ ShortAt script place
+  -- behind a row of whole steps stands a kind that the run knows, at this place, and the script ends inside its body
+  abbrev pub ShortAt : List ℕ → ℕ → Type 0
+  ShortAt script place =
+      (steps : List (List ℕ)) × (kind : ℕ) × (rest : List ℕ) × (body : ℕ)
+      × AreSteps steps × (script ≡ row steps ++ kind ∷ rest) × (place ≡ length (row steps)) × (kinds.body kind ≡ Some body) × (length rest < body)
+
+  -- A script is read as these calls exactly if it is a row of whole steps that stand for them. It is refused with a place exactly
+  -- if a fault stands at that place behind a row of whole steps.
+  pub record ReadsExactly : Type 0 where
+    pub whole : (script : List ℕ) (calls : List C) →
+        (read_script kinds script ≡ reads calls) ↔ ((steps : List (List ℕ)) × AreSteps steps × (script ≡ row steps) × (calls ≡ map kinds.call steps))
+    pub unknown : (script : List ℕ) (place : ℕ) → (read_script kinds script ≡ stops (UnknownKind place)) ↔ UnknownAt script place
+    pub short : (script : List ℕ) (place : ℕ) → (read_script kinds script ≡ stops (ShortStep place)) ↔ ShortAt script place

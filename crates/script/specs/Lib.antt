@@ -1,6 +1,9 @@
 pub mod Steps
 pub mod Reading
 pub mod Replies
-pub mod Runs
 pub mod Laws
+pub mod Runs
+pub mod Kept
+pub mod Folds
 pub mod Views
+pub mod StepCalls

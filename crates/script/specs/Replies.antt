@@ -1,15 +1,45 @@
--- Answers as bytes.
-use Rattle.std.specs.Prelude.{ℕ, List, [], ◌∷◌, ◌++◌}
+-- Answers as bytes. Numbers go highest byte first.
+use Rattle.std.specs.Prelude.{ℕ, ◌/◌, ◌%◌, List, [], ◌∷◌, ◌++◌, Some, None, Option}
 use Rattle.datasheet.specs.Levels.{level_number}
 use Rattle.datasheet.specs.Calls.{Answer, shows, done, refused}
+use Rattle.image.specs.Calls.{Answer as BoardAnswer, cells, place, bytes, done as board_done, refused as board_refused}
 
--- 81h and SO for a sample, 82h for a power cycle, 7Fh and the number of a refusal
+-- 7Fh and the number of a refusal
+abbrev pub refusal_bytes : ℕ → List ℕ
+refusal_bytes number = 0x7F ∷ number ∷ []
+
+-- ## The chip run
+
+-- 81h and SO for a sample, 82h for a power cycle
 abbrev pub answer_bytes : Answer → List ℕ
 answer_bytes (shows level) = 0x81 ∷ level_number level ∷ []
 answer_bytes done = 0x82 ∷ []
-answer_bytes (refused number) = 0x7F ∷ number ∷ []
+answer_bytes (refused number) = refusal_bytes number
 
 -- the bytes of several answers, one behind the other
 abbrev pub all_bytes : List Answer → List ℕ
 all_bytes [] = []
 all_bytes (a ∷ rest) = answer_bytes a ++ all_bytes rest
+
+-- ## The board run
+
+-- a number in three bytes
+abbrev pub three_bytes : ℕ → List ℕ
+three_bytes n = n / 65536 % 256 ∷ n / 256 % 256 ∷ n % 256 ∷ []
+
+-- a place, or FFFFFFh for none
+abbrev pub place_bytes : Option ℕ → List ℕ
+place_bytes (Some p) = three_bytes p
+place_bytes None = 0xFF ∷ 0xFF ∷ 0xFF ∷ []
+
+-- 83h and the size, 84h and the first fenced place, 85h and the bytes that were read, 86h for a write
+abbrev pub board_answer_bytes : BoardAnswer → List ℕ
+board_answer_bytes (cells n) = 0x83 ∷ three_bytes n
+board_answer_bytes (place p) = 0x84 ∷ place_bytes p
+board_answer_bytes (bytes bs) = 0x85 ∷ bs
+board_answer_bytes board_done = 0x86 ∷ []
+board_answer_bytes (board_refused number) = refusal_bytes number
+
+abbrev pub all_board_bytes : List BoardAnswer → List ℕ
+all_board_bytes [] = []
+all_board_bytes (a ∷ rest) = board_answer_bytes a ++ all_board_bytes rest

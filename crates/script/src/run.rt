@@ -1,15 +1,19 @@
-// The chip run.
-ghost use Rattle.std.specs.Prelude.{◌≡◌, ◌≤◌, ◌++◌, length, drop, IfOk};
-ghost use Rattle.datasheet.specs.Calls.{after, answer};
-ghost use Rattle.datasheet.specs.Kept.{bounded};
-ghost use Rattle.chip.specs.Views.{chip_of};
-ghost use Rattle.script.specs.Replies.{answer_bytes};
-ghost use Rattle.script.specs.Runs.{outcome};
-ghost use Rattle.script.specs.Laws.{ReadsExactly};
+// Runs of scripts, on anything that carries out their steps.
+ghost use Rattle.std.specs.Prelude.{◌≡◌, ◌≤◌, ◌++◌, ℕ, List, length, drop, IfOk};
+ghost use Rattle.datasheet.specs.Refusals.{refusal_number};
+ghost use Rattle.script.specs.Steps.{Kinds, first};
+ghost use Rattle.script.specs.Replies.{refusal_bytes};
+ghost use Rattle.script.specs.Runs.{outcome_by};
+ghost use Rattle.script.specs.Folds.{all_after, all_replies};
 
-use crate::steps::{Step, Steps, count_steps};
-use chip::Chip;
+mod boards;
+mod chips;
+mod steps;
+
+pub use boards::board_run;
+pub use chips::chip_run;
 use datasheet::Refusal;
+use steps::{Fault, Steps, count_steps};
 
 // The counts that a run answers: its steps, and the answer bytes that they put into the buffer.
 #[derive(Clone, Copy, Drop)]
@@ -37,7 +41,7 @@ impl<'b> Answers<'b> {
         Answers { buffer, used: 0 }
     }
 
-    ghost use Rattle.script.specs.Views.{given, free, call_of};
+    ghost use Rattle.script.specs.Views.{given, free};
 
     // Puts the bytes of one more answer behind those that are there.
     #[tactic(auto, using(crate::proofs::Going::placing))]
@@ -52,48 +56,77 @@ impl<'b> Answers<'b> {
         self.used = end;
     }
 
-    // Carries out a step on a chip, and puts its answer.
-    fn answer(&mut self, chip: &mut Chip<'_>, step: Step)
-        requires { 9 ≤ length (free self.old) }
-        ensures chip { chip_of chip.new ≡ after bounded (chip_of chip.old) (call_of step) }
-        ensures given { given self.new ≡ given self.old ++ answer_bytes (answer bounded (chip_of chip.old) (call_of step)) }
-        ensures free { free self.new ≡ drop (length (answer_bytes (answer bounded (chip_of chip.old) (call_of step)))) (free self.old) }
+    // Puts the answer of a step that was refused.
+    fn put_refusal(&mut self, refusal: Refusal)
+        requires { 2 ≤ length (free self.old) }
+        ensures given { given self.new ≡ given self.old ++ refusal_bytes (refusal_number refusal) }
+        ensures free { free self.new ≡ drop 2 (free self.old) }
         ensures lent { self.new.buffer.ghost_name ≡ self.old.buffer.ghost_name }
-        ensures memory { chip.new.memory.ghost_name ≡ chip.old.memory.ghost_name }
     {
-        // by a rule of the project a step is a case of an enum, and carrying it out a `match`
-        match step {
-            Step::Sample(byte) => match chip.sample(byte) {
-                Ok(level) => self.put(&[0x81, u8::from(level)]),
-                Err(refusal) => self.put(&[0x7F, u8::from(refusal)]),
-            },
-            Step::PowerCycle => {
-                chip.power_cycle();
-                self.put(&[0x82]);
-            }
-        }
+        self.put(&[0x7F, u8::from(refusal)]);
     }
 }
 
-// Runs a script on a chip. The whole script is read first, then the buffer is checked, then all steps run: a refused step
-// puts its refusal into the buffer and stops nothing.
+// What a script runs on.
+trait Runs<'s> {
+    ghost use Rattle.script.specs.Views.{first_of, given, free};
+
+    // Its steps, and the calls that they stand for.
+    type Step: Drop;
+
+    ghost Call: { Type 0 };
+
+    ghost call: { Self.Step → Call };
+
+    ghost kinds: { Kinds Call };
+
+    // What it is, what a call leaves of it, and the bytes that a call is answered.
+    ghost State: { Type 0 };
+
+    ghost state: { Self → State };
+
+    ghost after: { State → Call → State };
+
+    ghost reply: { State → Call → List ℕ };
+
+    // What it was given: no call puts another in the place of it.
+    ghost Lent: { Type 0 };
+
+    ghost lent: { Self → Lent };
+
+    // The first step of a script, and the rest behind it.
+    fn first(script: &'s [u8]) -> Result<(Self::Step, &'s [u8]), Fault>
+        ensures { first_of call result ≡ first kinds script.now };
+
+    // Carries out a step, and puts its answer, which has nine bytes at the most.
+    fn carry_out(&mut self, step: Self::Step, answers: &mut Answers<'_>)
+        requires { 9 ≤ length (free answers.old) }
+        ensures state { state self.new ≡ after (state self.old) (call step) }
+        ensures given { given answers.new ≡ given answers.old ++ reply (state self.old) (call step) }
+        ensures free { free answers.new ≡ drop (length (reply (state self.old) (call step))) (free answers.old) }
+        ensures few { length (reply (state self.old) (call step)) ≤ 9 }
+        ensures buffer { answers.new.buffer.ghost_name ≡ answers.old.buffer.ghost_name }
+        ensures lent { lent self.new ≡ lent self.old };
+}
+
+// Runs a script. The whole script is read first, then the buffer is checked, then all steps run: a refused step puts its
+// refusal into the buffer and stops nothing.
 #[tactic(auto, using(crate::proofs::Going::goes_on))]
-pub fn chip_run(chip: &mut Chip<'_>, script: &[u8], buffer: &mut [u8]) -> Result<Counts, Refusal>
-    ensures result { result ≡ (outcome bounded (chip_of chip.old) script.now buffer.old).result }
-    ensures chip { chip_of chip.new ≡ (outcome bounded (chip_of chip.old) script.now buffer.old).chip }
-    ensures buffer { buffer.new ≡ (outcome bounded (chip_of chip.old) script.now buffer.old).buffer }
+fn run<'s, X: Runs<'s>>(on: &mut X, script: &'s [u8], buffer: &mut [u8]) -> Result<Counts, Refusal>
+    ensures result { result ≡ (outcome_by X.kinds (all_after X.after) (all_replies X.after X.reply) (X.state on.old) script.now buffer.old).result }
+    ensures left { X.state on.new ≡ (outcome_by X.kinds (all_after X.after) (all_replies X.after X.reply) (X.state on.old) script.now buffer.old).left }
+    ensures buffer { buffer.new ≡ (outcome_by X.kinds (all_after X.after) (all_replies X.after X.reply) (X.state on.old) script.now buffer.old).buffer }
     ensures within { IfOk result (λ counts. counts.bytes ≤ length buffer.old) }
-    ensures lent { chip.new.memory.ghost_name ≡ chip.old.memory.ghost_name }
-    ensures law { ReadsExactly }
+    ensures lent { X.lent on.new ≡ X.lent on.old }
 {
-    let steps = count_steps(script)?;
+    let steps = count_steps::<X>(script)?;
     if buffer.len() / 9 < steps {
         return Err(Refusal::ShortBuffer);
     }
     let mut answers = Answers::new(buffer);
     // all steps were read, so none of them is a fault
-    for step in Steps::new(script) {
-        answers.answer(chip, step?);
+    for step in Steps::<X>::new(script) {
+        on.carry_out(step?, &mut answers);
     }
     Ok(Counts {
         steps,

@@ -43,13 +43,13 @@ impl<B: Bus> Driver<B> {
 impl<B: Bus> Board for Driver<B> {
     ghost image = { λ s. driver_image B.Bus.meaning s };
 
-    ghost lent = { λ s. driver_lent B.Bus.lent s };
+    ghost lent = { λ s. driver_lent B.Bus.meaning B.Bus.lent s };
 
     fn size(&mut self) -> usize
         ensures answer { result ≡ length (driver_image B.Bus.meaning self.old) }
         ensures few { result ≤ most }
         ensures same { driver_image B.Bus.meaning self.new ≡ driver_image B.Bus.meaning self.old }
-        ensures lent { driver_lent B.Bus.lent self.new ≡ driver_lent B.Bus.lent self.old }
+        ensures lent { driver_lent B.Bus.meaning B.Bus.lent self.new ≡ driver_lent B.Bus.meaning B.Bus.lent self.old }
         ensures bus { B.Bus.meaning self.new.bus ≡ calm (B.Bus.meaning self.old.bus) }
     {
         survey(&mut self.bus).size
@@ -58,7 +58,7 @@ impl<B: Bus> Board for Driver<B> {
     fn first_fence(&mut self, start: usize, count: usize) -> Result<Option<usize>, Refusal>
         ensures answer { result ≡ fence_result (driver_image B.Bus.meaning self.old) start count }
         ensures same { driver_image B.Bus.meaning self.new ≡ driver_image B.Bus.meaning self.old }
-        ensures lent { driver_lent B.Bus.lent self.new ≡ driver_lent B.Bus.lent self.old }
+        ensures lent { driver_lent B.Bus.meaning B.Bus.lent self.new ≡ driver_lent B.Bus.meaning B.Bus.lent self.old }
         ensures bus { B.Bus.meaning self.new.bus ≡ calm (B.Bus.meaning self.old.bus) }
     {
         let found = survey(&mut self.bus);
@@ -70,7 +70,7 @@ impl<B: Bus> Board for Driver<B> {
         ensures answer { result ≡ read_result (driver_image B.Bus.meaning self.old) start (length buffer.old) }
         ensures filled { buffer.new ≡ read_into (driver_image B.Bus.meaning self.old) start buffer.old }
         ensures same { driver_image B.Bus.meaning self.new ≡ driver_image B.Bus.meaning self.old }
-        ensures lent { driver_lent B.Bus.lent self.new ≡ driver_lent B.Bus.lent self.old }
+        ensures lent { driver_lent B.Bus.meaning B.Bus.lent self.new ≡ driver_lent B.Bus.meaning B.Bus.lent self.old }
         ensures bus { B.Bus.meaning self.new.bus ≡ calm (B.Bus.meaning self.old.bus) }
     {
         let found = survey(&mut self.bus);
@@ -85,7 +85,7 @@ impl<B: Bus> Board for Driver<B> {
     fn write(&mut self, start: usize, bytes: &[u8]) -> Result<(), Refusal>
         ensures answer { result ≡ write_result (driver_image B.Bus.meaning self.old) start bytes.now }
         ensures after { driver_image B.Bus.meaning self.new ≡ written (driver_image B.Bus.meaning self.old) start bytes.now }
-        ensures lent { driver_lent B.Bus.lent self.new ≡ driver_lent B.Bus.lent self.old }
+        ensures lent { driver_lent B.Bus.meaning B.Bus.lent self.new ≡ driver_lent B.Bus.meaning B.Bus.lent self.old }
         ensures bus { B.Bus.meaning self.new.bus ≡ after_write (B.Bus.meaning self.old.bus) start bytes.now }
     {
         let found = survey(&mut self.bus);

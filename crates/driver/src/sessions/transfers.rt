@@ -1,4 +1,4 @@
-// A write and a read through a driver over a line to a chip that was left in any state.
+// A write and a read through a driver over a bus to a chip that was left in any state.
 ghost use Rattle.std.specs.Prelude.{◌≡◌, length};
 ghost use Rattle.datasheet.specs.Chips.{whole};
 ghost use Rattle.datasheet.specs.Calls.{run};
@@ -6,14 +6,15 @@ ghost use Rattle.datasheet.specs.Kept.{bounded};
 ghost use Rattle.chip.specs.Views.{chip_of};
 ghost use Rattle.spi.specs.Meanings.{made};
 ghost use Rattle.spi.specs.Laws.{LineIsBus};
+ghost use Rattle.bus.specs.Ways.{wp_of};
 ghost use Rattle.image.specs.Results.{read_result, read_into, write_result};
 ghost use Rattle.driver.specs.Drives.{image_of, after_write};
 ghost use Rattle.driver.specs.Left.{samples, left_by};
 
 use super::Driver;
 use board::Board;
-use bus::{Bus, Line, Setting};
-use chip::{Chip, ParkedChip, Pins};
+use bus::{Bus, ByteBus, Line, Setting, Way};
+use chip::{Chip, ParkedChip, Pins, Steps};
 use datasheet::Refusal;
 
 // What a write and the read behind it came to.
@@ -73,35 +74,73 @@ pub fn transfer_over<P: Pins>(
     over_bus(&mut line, start, bytes, buffer)
 }
 
+// The same through a driver over a chip that is stepped by bytes.
+fn transfer_stepped<C: Steps>(
+    chip: &mut C,
+    wp: bool,
+    start: usize,
+    bytes: &[u8],
+    buffer: &mut [u8],
+) -> Outcome
+    ensures written { result.written ≡ write_result (image_of (made bounded wp (C.Pins.chip chip.old))) start bytes.now }
+    ensures read { result.read ≡
+        read_result (image_of (after_write (made bounded wp (C.Pins.chip chip.old)) start bytes.now)) start (length buffer.old) }
+    ensures filled { buffer.new ≡
+        read_into (image_of (after_write (made bounded wp (C.Pins.chip chip.old)) start bytes.now)) start buffer.old }
+    ensures rec { (C.Pins.chip chip.new).rec ≡ (after_write (made bounded wp (C.Pins.chip chip.old)) start bytes.now).rec }
+    ensures sheet { (C.Pins.chip chip.new).sheet ≡ (C.Pins.chip chip.old).sheet }
+    ensures lent { C.Pins.lent chip.new ≡ C.Pins.lent chip.old }
+{
+    let mut bus = ByteBus::new(chip, wp);
+    over_bus(&mut bus, start, bytes, buffer)
+}
+
+// The same, whichever bus is taken.
+fn over<C: Steps>(chip: &mut C, way: Way, start: usize, bytes: &[u8], buffer: &mut [u8]) -> Outcome
+    ensures written { result.written ≡ write_result (image_of (made bounded (wp_of way) (C.Pins.chip chip.old))) start bytes.now }
+    ensures read { result.read ≡
+        read_result (image_of (after_write (made bounded (wp_of way) (C.Pins.chip chip.old)) start bytes.now)) start (length buffer.old) }
+    ensures filled { buffer.new ≡
+        read_into (image_of (after_write (made bounded (wp_of way) (C.Pins.chip chip.old)) start bytes.now)) start buffer.old }
+    ensures rec { (C.Pins.chip chip.new).rec ≡ (after_write (made bounded (wp_of way) (C.Pins.chip chip.old)) start bytes.now).rec }
+    ensures sheet { (C.Pins.chip chip.new).sheet ≡ (C.Pins.chip chip.old).sheet }
+    ensures lent { C.Pins.lent chip.new ≡ C.Pins.lent chip.old }
+{
+    match way {
+        Way::Bytes { wp } => transfer_stepped(chip, wp, start, bytes, buffer),
+        Way::Line(setting) => transfer_over(chip, setting, start, bytes, buffer),
+    }
+}
+
 // Powers a parked chip over lent memory and leaves it as these samples leave it, in a session, asleep, or with its latch set;
-// then writes bytes and reads into a buffer from the same start, through a driver over a line to it, and parks it again. Answers,
-// buffer, memory and stored bits are what the rules over the full list of bits say, on every sheet, whatever the line's mode and
-// its held samples are.
+// then writes bytes and reads into a buffer from the same start, through a driver over a bus to it, and parks it again. Answers,
+// buffer, memory and stored bits are what the rules over the full list of bits say, on every sheet: one value, whichever bus is
+// taken, and whatever a line's mode and its held samples are.
 pub fn transfer(
     parked: ParkedChip,
     memory: &mut [u8],
     before: &[u8],
-    setting: Setting,
+    way: Way,
     start: usize,
     bytes: &[u8],
     buffer: &mut [u8],
 ) -> (ParkedChip, Outcome)
     ensures written { result.1.written ≡
-        write_result (image_of (left_by parked.sheet memory.old parked.stored.bits before.now setting.wp)) start bytes.now }
+        write_result (image_of (left_by parked.sheet memory.old parked.stored.bits before.now (wp_of way))) start bytes.now }
     ensures memory { memory.new ≡
-        (after_write (left_by parked.sheet memory.old parked.stored.bits before.now setting.wp) start bytes.now).rec.memory }
+        (after_write (left_by parked.sheet memory.old parked.stored.bits before.now (wp_of way)) start bytes.now).rec.memory }
     ensures stored { result.0.stored.bits ≡
-        (after_write (left_by parked.sheet memory.old parked.stored.bits before.now setting.wp) start bytes.now).rec.stored }
+        (after_write (left_by parked.sheet memory.old parked.stored.bits before.now (wp_of way)) start bytes.now).rec.stored }
     ensures sheet { result.0.sheet ≡ parked.sheet }
     ensures read { result.1.read ≡
-        read_result (image_of (after_write (left_by parked.sheet memory.old parked.stored.bits before.now setting.wp) start bytes.now))
+        read_result (image_of (after_write (left_by parked.sheet memory.old parked.stored.bits before.now (wp_of way)) start bytes.now))
         start (length buffer.old) }
     ensures filled { buffer.new ≡
-        read_into (image_of (after_write (left_by parked.sheet memory.old parked.stored.bits before.now setting.wp) start bytes.now))
+        read_into (image_of (after_write (left_by parked.sheet memory.old parked.stored.bits before.now (wp_of way)) start bytes.now))
         start buffer.old }
 {
     let mut chip = parked.power(memory);
     put_all(&mut chip, before);
-    let outcome = transfer_over(&mut chip, setting, start, bytes, buffer);
+    let outcome = over(&mut chip, way, start, bytes, buffer);
     (chip.power_off(), outcome)
 }

@@ -1,0 +1,62 @@
+// The C entry points: both script runs on numbers and byte buffers (include/fram.h). Each is total: whatever the numbers are,
+// and however long the buffers.
+#![tactic(auto)]
+
+ghost use Rattle.reports.specs.Marks.{marks_by};
+ghost use Rattle.reports.specs.Visits.{Visits, on_chip, on_board};
+
+use reports::{Report, board_report, chip_report, marks};
+
+// The chip run, on the pins of the chip.
+#[unsafe(no_mangle)]
+pub extern "C" fn fram_chip_run(
+    t: u8,
+    f: u8,
+    drop: u8,
+    sleep: u8,
+    fast: u8,
+    stored: u8,
+    memory: &mut [u8],
+    script: &[u8],
+    answers: &mut [u8],
+) -> Report
+    ensures { Visits on_chip t f (marks_by drop sleep fast) stored memory.old script.now answers.old
+        (record { report = result; memory = memory.new; answers = answers.new }) }
+{
+    chip_report(
+        t,
+        f,
+        marks(drop, sleep, fast),
+        stored,
+        memory,
+        script,
+        answers,
+    )
+}
+
+// The board run, on the board that a driver makes of the chip.
+#[unsafe(no_mangle)]
+pub extern "C" fn fram_board_run(
+    t: u8,
+    f: u8,
+    drop: u8,
+    sleep: u8,
+    fast: u8,
+    stored: u8,
+    memory: &mut [u8],
+    script: &[u8],
+    answers: &mut [u8],
+) -> Report
+    ensures { Visits on_board t f (marks_by drop sleep fast) stored memory.old script.now answers.old
+        (record { report = result; memory = memory.new; answers = answers.new }) }
+{
+    board_report(
+        t,
+        f,
+        marks(drop, sleep, fast),
+        stored,
+        memory,
+        script,
+        answers,
+    )
+}

@@ -1,0 +1,2 @@
+pub mod OnBoard
+pub mod Parked

@@ -1,0 +1,89 @@
+-- What the board of a chip is when power comes, and what the chip holds when the run ends.
+use Rattle.std.proofs.Common.{◌≡◌, ℕ, ◌+◌, ◌*◌, ◌<◌, Bool, true, false, cond, leb, List, [], ◌∷◌, ◌++◌, map, length, take, drop, Ok, Err, Result, sym, refl, ap, ap₂, ◌∙◌, arith}
+use Rattle.std.proofs.lemmas.Bool.{eqb-true}
+use Rattle.std.proofs.lemmas.List.{map-append, take-append-drop}
+use Rattle.std.proofs.lemmas.Nat.{pow_pos}
+use Rattle.datasheet.specs.declared.registers.Registers.{Registers}
+use Rattle.datasheet.specs.declared.sheet.Sheet.{Sheet}
+use Rattle.datasheet.specs.declared.refusal.Refusal.{Refusal}
+use Rattle.datasheet.specs.declared.refusal.Refusal.TheVariants.{ShortBuffer}
+use Rattle.datasheet.specs.Sheets.{cells, fits, density_of}
+use Rattle.datasheet.specs.Records.{Record}
+use Rattle.datasheet.specs.Calls.{Chip, powered}
+use Rattle.datasheet.specs.Protection.{first_protected}
+use Rattle.datasheet.specs.Kept.{bounded}
+use Rattle.spi.specs.Meanings.{made}
+use Rattle.image.specs.declared.Cell.{Cell}
+use Rattle.image.specs.Images.{Image, bytes_of, free, overwritten}
+use Rattle.image.specs.Results.{if_accepted, write_result, written}
+use Rattle.image.specs.Calls.{Call, size, fence, read, write, after, run, answers}
+use Rattle.image.proofs.Cells.{length-overwritten}
+use Rattle.driver.specs.Drives.{chip_image, image_of, fenced}
+use Rattle.driver.proofs.Cells.{image_length}
+use Rattle.script.specs.Steps.{board_kinds}
+use Rattle.script.specs.Reading.{Reading, reads, stops, read_script}
+use Rattle.script.specs.Runs.{outcome_of, playing, refusing, board_outcome}
+use Rattle.script.specs.Replies.{all_board_bytes}
+use Rattle.reports.specs.Shown.{chip_shown, shown_of}
+
+-- at the beginning
+pub begins : {c : Chip Registers} {s : Sheet} {memory : List ℕ} {stored : ℕ} → c ≡ powered s memory stored → fits s memory ≡ true →
+    image_of (made bounded true c) ≡ shown_of s memory stored
+begins {s = s} {memory = memory} {stored = stored} e fit =
+    ap (λ (c : Chip Registers). image_of (made bounded true c)) e ∙ ap (λ (f : Bool). cond f (shown_of s memory stored) []) fit
+
+-- no call changes the number of cells
+length-written : (i : Image) (start : ℕ) (bytes : List ℕ) → length (written i start bytes) ≡ length i
+length-written i start bytes = go (write_result i start bytes)
+  where
+    go : (r : Result (Unit {0}) Refusal) → length (if_accepted r (overwritten i start bytes) i) ≡ length i
+    go (Ok u) = length-overwritten i start bytes
+    go (Err e) = refl
+
+length-after : (i : Image) (c : Call) → length (after i c) ≡ length i
+length-after i size = refl
+length-after i (fence start count) = refl
+length-after i (read start count) = refl
+length-after i (write start bytes) = length-written i start bytes
+
+length-run : (i : Image) (calls : List Call) → length (run i calls) ≡ length i
+length-run i [] = refl
+length-run i (c ∷ calls) = length-run (after i c) calls ∙ length-after i c
+
+left-by : (i : Image) (buffer : List ℕ) (k : Reading Call) → length (outcome_of board_kinds run (λ j calls. all_board_bytes (answers j calls)) k i buffer).left ≡ length i
+left-by i buffer (stops e) = refl
+left-by i buffer (reads calls) = go (leb (9 * length calls) (length buffer))
+  where
+    go : (f : Bool) →
+        length (cond f (playing board_kinds run (λ j calls. all_board_bytes (answers j calls)) i calls (all_board_bytes (answers i calls)) buffer) (refusing ShortBuffer i buffer)).left ≡ length i
+    go true = length-run i calls
+    go false = refl
+
+length-left : (i : Image) (script buffer : List ℕ) → length (board_outcome i script buffer).left ≡ length i
+length-left i script buffer = left-by i buffer (read_script board_kinds script)
+
+-- the bytes of the cells of a chip are its memory
+marked-bytes : (f : ℕ → Cell) → ((b : ℕ) → (f b).byte ≡ b) → (xs : List ℕ) → bytes_of (map f xs) ≡ xs
+marked-bytes f h [] = refl
+marked-bytes f h (x ∷ xs) = ap₂ (λ (b : ℕ) (bs : List ℕ). b ∷ bs) (h x) (marked-bytes f h xs)
+
+chip-bytes : (s : Sheet) (r : Record) → bytes_of (chip_image s r) ≡ r.memory
+chip-bytes s r =
+    let k = first_protected s r in
+    map-append (λ (c : Cell). c.byte) (map free (take k r.memory)) (map fenced (drop k r.memory))
+    ∙ ap₂ (λ (xs ys : List ℕ). xs ++ ys) (marked-bytes free (λ b. refl) (take k r.memory)) (marked-bytes fenced (λ b. refl) (drop k r.memory))
+    ∙ take-append-drop k r.memory
+
+shown-bytes : (f : Bool) (s : Sheet) (r : Record) (left : Image) → cond f (chip_image s r) [] ≡ left → 0 < length left → r.memory ≡ bytes_of left
+shown-bytes true s r left e some = sym (chip-bytes s r) ∙ ap bytes_of e
+shown-bytes false s r left e some = absurd (omega (arith, ap length e))
+
+-- at the end
+pub ends : (c : Chip Registers) (s : Sheet) (memory : List ℕ) (stored : ℕ) (i : Image) (script buffer : List ℕ) → fits s memory ≡ true → i ≡ shown_of s memory stored →
+    chip_shown c ≡ (board_outcome i script buffer).left → c.rec.memory ≡ bytes_of (board_outcome (shown_of s memory stored) script buffer).left
+ends c s memory stored i script buffer fit begun left =
+    let cells_there = eqb-true (length memory) (cells s) fit in
+    let some = pow_pos (10 + density_of s.t) in
+    let long = image_length s (record { memory = memory; stored = stored; latch = false; asleep = false }) in
+    shown-bytes c.fitted c.sheet c.rec _ left (omega (arith, cells_there, some, long, ap length begun, length-left i script buffer))
+    ∙ ap (λ (j : Image). bytes_of (board_outcome j script buffer).left) begun

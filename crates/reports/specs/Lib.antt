@@ -1,0 +1,4 @@
+pub mod Marks
+pub mod Reports
+pub mod Shown
+pub mod Visits

@@ -1,0 +1,19 @@
+-- The steps of the code, as the calls that they stand for.
+use Rattle.std.specs.Prelude.{[], ◌∷◌}
+use Rattle.datasheet.specs.Calls.{Call, Call.sample, cycle}
+use Rattle.image.specs.Calls.{Call as BoardCall, size, fence, read, write}
+use Rattle.script.specs.declared.run.chips.ChipStep.{ChipStep}
+use Rattle.script.specs.declared.run.chips.ChipStep.TheVariants.{Sample, PowerCycle}
+use Rattle.script.specs.declared.run.boards.BoardStep.{BoardStep}
+use Rattle.script.specs.declared.run.boards.BoardStep.TheVariants.{Size, Fence, ReadEight, WriteEight, WriteOne}
+
+abbrev pub chip_call_of : ChipStep → Call
+chip_call_of (Sample byte) = sample byte
+chip_call_of PowerCycle = cycle
+
+abbrev pub board_call_of : BoardStep → BoardCall
+board_call_of Size = size
+board_call_of (Fence start) = fence start 8
+board_call_of (ReadEight start) = read start 8
+board_call_of (WriteEight start bytes) = write start bytes.now
+board_call_of (WriteOne start byte) = write start (byte ∷ [])

@@ -1,0 +1,170 @@
+// The board run: sizes, fence questions, reads and writes, on any board.
+ghost use Rattle.std.specs.Prelude.{◌≡◌, ◌≤◌, ◌+◌, ◌*◌, length, IfOk};
+ghost use Rattle.script.specs.Steps.{board_kinds, first};
+ghost use Rattle.script.specs.Replies.{three_bytes, place_bytes};
+ghost use Rattle.script.specs.Runs.{board_outcome};
+ghost use Rattle.script.specs.Laws.{ReadsExactly};
+ghost use Rattle.script.specs.Kept.{KeepsFenced, KeepsUnnamed};
+
+use super::steps::Fault;
+use super::{Answers, Counts, Runs, run};
+use board::Board;
+use datasheet::Refusal;
+
+// A step of the board run. The bytes of a write of eight stay a part of the script.
+#[derive(Drop)]
+pub(super) enum BoardStep<'s> {
+    Size,
+    Fence { start: usize },
+    ReadEight { start: usize },
+    WriteEight { start: usize, bytes: &'s [u8; 8] },
+    WriteOne { start: usize, byte: u8 },
+}
+
+// The start that a step names in three bytes.
+fn start_of(high: u8, middle: u8, low: u8) -> usize
+    ensures { result ≡ 65536 * high + (256 * middle + low) }
+{
+    usize::from(high) * 65536 + (usize::from(middle) * 256 + usize::from(low))
+}
+
+// A number in three bytes.
+fn three_bytes(number: usize) -> [u8; 3]
+    ensures { result ≡ three_bytes number }
+{
+    [
+        (number / 65536 % 256) as u8,
+        (number / 256 % 256) as u8,
+        (number % 256) as u8,
+    ]
+}
+
+// A place in three bytes, or FFFFFFh for none.
+fn place_bytes(place: Option<usize>) -> [u8; 3]
+    ensures { result ≡ place_bytes place }
+{
+    match place {
+        Some(place) => three_bytes(place),
+        None => [0xFF; 3],
+    }
+}
+
+// A board, as what a script runs on.
+#[derive(Drop)]
+struct OnBoard<B> {
+    board: B,
+}
+
+impl<'s, B: Board> Runs<'s> for OnBoard<B> {
+    ghost use Rattle.image.specs.Images.{Image};
+    ghost use Rattle.image.specs.Lent.{Lent};
+    ghost use Rattle.image.specs.Calls.{Call, after, answer};
+    ghost use Rattle.script.specs.Replies.{board_answer_bytes};
+    ghost use Rattle.script.specs.StepCalls.{board_call_of};
+    ghost use Rattle.script.specs.Views.{first_of};
+
+    type Step = BoardStep<'s>;
+
+    ghost Call = { Call };
+
+    ghost call = { board_call_of };
+
+    ghost kinds = { board_kinds };
+
+    ghost State = { Image };
+
+    ghost state = { λ s. B.Board.image s.board };
+
+    ghost after = { after };
+
+    ghost reply = { λ i x. board_answer_bytes (answer i x) };
+
+    ghost Lent = { Lent };
+
+    ghost lent = { λ s. B.Board.lent s.board };
+
+    #[tactic(auto, using(crate::proofs::Found::whole_step))]
+    fn first(script: &'s [u8]) -> Result<(BoardStep<'s>, &'s [u8]), Fault>
+        ensures { first_of board_call_of result ≡ first board_kinds script.now }
+    {
+        match script {
+            [3, rest @ ..] => Ok((BoardStep::Size, rest)),
+            [4, high, middle, low, rest @ ..] => {
+                let start = start_of(*high, *middle, *low);
+                Ok((BoardStep::Fence { start }, rest))
+            }
+            [5, high, middle, low, rest @ ..] => {
+                let start = start_of(*high, *middle, *low);
+                Ok((BoardStep::ReadEight { start }, rest))
+            }
+            [6, high, middle, low, tail @ ..] => match tail.split_first_chunk::<8>() {
+                Some((bytes, rest)) => {
+                    let start = start_of(*high, *middle, *low);
+                    Ok((BoardStep::WriteEight { start, bytes }, rest))
+                }
+                None => Err(Fault::ShortStep),
+            },
+            [7, high, middle, low, byte, rest @ ..] => {
+                let start = start_of(*high, *middle, *low);
+                Ok((BoardStep::WriteOne { start, byte: *byte }, rest))
+            }
+            [4..=7, ..] => Err(Fault::ShortStep),
+            _ => Err(Fault::UnknownKind),
+        }
+    }
+
+    fn carry_out(&mut self, step: BoardStep<'s>, answers: &mut Answers<'_>) {
+        match step {
+            BoardStep::Size => {
+                let [high, middle, low] = three_bytes(self.board.size());
+                answers.put(&[0x83, high, middle, low]);
+            }
+            BoardStep::Fence { start } => match self.board.first_fence(start, 8) {
+                Ok(place) => {
+                    let [high, middle, low] = place_bytes(place);
+                    answers.put(&[0x84, high, middle, low]);
+                }
+                Err(refusal) => answers.put_refusal(refusal),
+            },
+            BoardStep::ReadEight { start } => {
+                let mut cells = [0; 8];
+                match self.board.read(start, &mut cells) {
+                    Ok(()) => {
+                        let [a, b, c, d, e, f, g, h] = cells;
+                        answers.put(&[0x85, a, b, c, d, e, f, g, h]);
+                    }
+                    Err(refusal) => answers.put_refusal(refusal),
+                }
+            }
+            BoardStep::WriteEight { start, bytes } => match self.board.write(start, bytes) {
+                Ok(()) => answers.put(&[0x86]),
+                Err(refusal) => answers.put_refusal(refusal),
+            },
+            BoardStep::WriteOne { start, byte } => match self.board.write(start, &[byte]) {
+                Ok(()) => answers.put(&[0x86]),
+                Err(refusal) => answers.put_refusal(refusal),
+            },
+        }
+    }
+}
+
+// Runs a script on a board. The whole script is read first, then the buffer is checked, then all steps run: a refused step
+// puts its refusal into the buffer and stops nothing.
+#[tactic(auto, using(crate::proofs::Exact::reads_exactly, crate::proofs::Fences::fences))]
+pub fn board_run<B: Board>(
+    board: &mut B,
+    script: &[u8],
+    buffer: &mut [u8],
+) -> Result<Counts, Refusal>
+    ensures result { result ≡ (board_outcome (B.Board.image board.old) script.now buffer.old).result }
+    ensures image { B.Board.image board.new ≡ (board_outcome (B.Board.image board.old) script.now buffer.old).left }
+    ensures buffer { buffer.new ≡ (board_outcome (B.Board.image board.old) script.now buffer.old).buffer }
+    ensures within { IfOk result (λ counts. counts.bytes ≤ length buffer.old) }
+    ensures lent { B.Board.lent board.new ≡ B.Board.lent board.old }
+    ensures law { ReadsExactly board_kinds }
+    ensures fences { KeepsFenced }
+    ensures unnamed { KeepsUnnamed }
+{
+    let mut on = OnBoard { board };
+    run(&mut on, script, buffer)
+}
