@@ -1,9 +1,10 @@
-//! The library through its C interface: its two runs, its transfers and its read of plain memory, with guard bytes
-//! around every buffer.
+//! The library through its C interface: its two runs, its transfers and its read of plain memory, each buffer
+//! between pages that cannot be touched.
 
 use crate::bus::Mode;
 use crate::differential::{Outcome, Subject};
 use crate::generate::{Case, Run};
+use crate::guarded::{Guarded, Side};
 use crate::script::{Numbers, Report};
 use crate::transfer::{Order, Transfer, Way};
 
@@ -98,51 +99,6 @@ unsafe extern "C" {
     fn testbed_read_plain(memory: *mut u8, memory_len: usize, start: usize, buffer: *mut u8, buffer_len: usize) -> u32;
 }
 
-const GUARD: usize = 64;
-
-/// The guard byte at a place; neighbours differ, so that a copied or shifted guard is seen as well.
-fn guard(place: usize) -> u8 {
-    0xA5 ^ (place as u8).wrapping_mul(0x1D)
-}
-
-/// A buffer between two guards.
-struct Guarded(Vec<u8>);
-
-impl Guarded {
-    fn new(content: &[u8]) -> Self {
-        let mut bytes = Vec::with_capacity(content.len() + 2 * GUARD);
-        bytes.extend((0..GUARD).map(guard));
-        bytes.extend_from_slice(content);
-        bytes.extend((GUARD..2 * GUARD).map(guard));
-        Guarded(bytes)
-    }
-
-    fn length(&self) -> usize {
-        self.0.len() - 2 * GUARD
-    }
-
-    fn content(&self) -> &[u8] {
-        &self.0[GUARD..GUARD + self.length()]
-    }
-
-    fn content_mut(&mut self) -> &mut [u8] {
-        let length = self.length();
-        &mut self.0[GUARD..GUARD + length]
-    }
-
-    fn check(&self, name: &str) -> Result<(), String> {
-        let (before, rest) = self.0.split_at(GUARD);
-        let after = &rest[self.length()..];
-        if !before.iter().copied().eq((0..GUARD).map(guard)) {
-            return Err(format!("bytes before the {name} were changed"));
-        }
-        if !after.iter().copied().eq((GUARD..2 * GUARD).map(guard)) {
-            return Err(format!("bytes behind the {name} were changed"));
-        }
-        Ok(())
-    }
-}
-
 /// Calls one of the library's runs on these very buffers.
 pub fn run(run: Run, numbers: &Numbers, memory: &mut [u8], script: &[u8], answers: &mut [u8]) -> Report {
     let run: FramRun = match run {
@@ -176,9 +132,15 @@ pub fn run(run: Run, numbers: &Numbers, memory: &mut [u8], script: &[u8], answer
     }
 }
 
+/// On which side buffers lie against a page: now the one, now the other.
+fn side(length: usize) -> Side {
+    if length.is_multiple_of(3) { Side::First } else { Side::Last }
+}
+
 /// Carries out a case between guards, which must stay as they are.
 pub fn call(case: &Case) -> Result<Outcome, String> {
-    let mut between = [Guarded::new(&case.memory), Guarded::new(&case.script), Guarded::new(&case.answers)];
+    let side = side(case.script.len());
+    let mut between = [&case.memory, &case.script, &case.answers].map(|content| Guarded::new(content, side));
     let [memory, script, answers] = &mut between;
     let report = run(case.run, &case.numbers, memory.content_mut(), script.content(), answers.content_mut());
     for (guarded, name) in between.iter().zip(["memory", "script", "answers"]) {
@@ -237,8 +199,8 @@ pub fn guarded_transfer(
     order: Order,
     buffer: &mut [u8],
 ) -> Result<Transfer, String> {
-    let mut between =
-        [Guarded::new(memory), Guarded::new(order.before), Guarded::new(order.bytes), Guarded::new(buffer)];
+    let side = side(order.bytes.len() + buffer.len());
+    let mut between = [&*memory, order.before, order.bytes, &*buffer].map(|content| Guarded::new(content, side));
     let [m, before, bytes, b] = &mut between;
     let guarded = Order { before: before.content(), start: order.start, bytes: bytes.content() };
     let done = transfer(numbers, m.content_mut(), way, guarded, b.content_mut());
@@ -266,22 +228,5 @@ pub struct Library;
 impl Subject for Library {
     fn run(&mut self, case: &Case) -> Result<Outcome, String> {
         call(case)
-    }
-}
-
-#[cfg(test)]
-mod tests {
-    use super::*;
-
-    #[test]
-    fn a_changed_guard_is_seen() {
-        for length in [0, 1, 100] {
-            for place in (0..GUARD).chain(GUARD + length..length + 2 * GUARD) {
-                let mut buffer = Guarded::new(&vec![0x11; length]);
-                assert_eq!(buffer.check("buffer"), Ok(()));
-                buffer.0[place] ^= 0x01;
-                assert!(buffer.check("buffer").is_err());
-            }
-        }
     }
 }

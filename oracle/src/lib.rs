@@ -10,6 +10,8 @@ pub mod driver;
 #[cfg(feature = "library")]
 pub mod ffi;
 pub mod generate;
+#[cfg(feature = "library")]
+pub mod guarded;
 pub mod refusal;
 pub mod rng;
 pub mod script;

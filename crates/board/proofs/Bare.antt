@@ -5,76 +5,76 @@ use Rattle.std.proofs.lemmas.List.{drop-map, take-map, length-map, length-take}
 use Rattle.image.specs.Images.{most, inside, bytes_of, first_fenced, fence_in, overlaid, overwritten, free}
 use Rattle.image.specs.Results.{range_result, fence_result, read_into, write_result, written}
 use Rattle.image.specs.Layers.{plain}
-use Rattle.image.proofs.Cells.{range-inside, range_fits}
+use Rattle.image.proofs.Cells.{range_inside, range_fits}
 use Rattle.board.specs.Plains.{patched, memory_after}
 
-none-fenced : (at : ℕ) (bs : List ℕ) → first_fenced at (map free bs) ≡ None
-none-fenced at [] = refl
-none-fenced at (b ∷ bs) = none-fenced (at + 1) bs
+none_fenced : (at : ℕ) (bs : List ℕ) → first_fenced at (map free bs) ≡ None
+none_fenced at [] = refl
+none_fenced at (b ∷ bs) = none_fenced (at + 1) bs
 
-no-fence : (memory : List ℕ) (s n : ℕ) → fence_in (plain memory) s n ≡ None
-no-fence memory s n = simp (drop-map, take-map) (none-fenced s (take n (drop s (take most memory))))
+no_fence : (memory : List ℕ) (s n : ℕ) → fence_in (plain memory) s n ≡ None
+no_fence memory s n = simp (drop-map, take-map) (none_fenced s (take n (drop s (take most memory))))
 
-bytes-free : (bs : List ℕ) → bytes_of (map free bs) ≡ bs
-bytes-free [] = refl
-bytes-free (b ∷ bs) = ap (λ t. b ∷ t) (bytes-free bs)
+bytes_free : (bs : List ℕ) → bytes_of (map free bs) ≡ bs
+bytes_free [] = refl
+bytes_free (b ∷ bs) = ap (λ t. b ∷ t) (bytes_free bs)
 
 -- bytes put into the memory, as far as the limit lets them be seen
-overlaid-free : (xs bs : List ℕ) → length bs ≤ length xs → overlaid (map free xs) bs ≡ map free (bs ++ drop (length bs) xs)
-overlaid-free [] [] h = refl
-overlaid-free [] (b ∷ bs) h = absurd (omega arith)
-overlaid-free (x ∷ xs) [] h = refl
-overlaid-free (x ∷ xs) (b ∷ bs) h = ap (λ t. free b ∷ t) (overlaid-free xs bs (omega arith))
+overlaid_free : (xs bs : List ℕ) → length bs ≤ length xs → overlaid (map free xs) bs ≡ map free (bs ++ drop (length bs) xs)
+overlaid_free [] [] h = refl
+overlaid_free [] (b ∷ bs) h = absurd (omega arith)
+overlaid_free (x ∷ xs) [] h = refl
+overlaid_free (x ∷ xs) (b ∷ bs) h = ap (λ t. free b ∷ t) (overlaid_free xs bs (omega arith))
 
-take-front : (bs memory : List ℕ) (l : ℕ) → length bs ≤ l → length bs ≤ length memory → take l (bs ++ drop (length bs) memory) ≡ bs ++ drop (length bs) (take l memory)
-take-front [] memory l h k = refl
-take-front (b ∷ bs) [] l h k = absurd (omega arith)
-take-front (b ∷ bs) (x ∷ memory) zero h k = absurd (omega arith)
-take-front (b ∷ bs) (x ∷ memory) (suc l) h k = ap (λ t. b ∷ t) (take-front bs memory l (omega arith) (omega arith))
+take_front : (bs memory : List ℕ) (l : ℕ) → length bs ≤ l → length bs ≤ length memory → take l (bs ++ drop (length bs) memory) ≡ bs ++ drop (length bs) (take l memory)
+take_front [] memory l h k = refl
+take_front (b ∷ bs) [] l h k = absurd (omega arith)
+take_front (b ∷ bs) (x ∷ memory) zero h k = absurd (omega arith)
+take_front (b ∷ bs) (x ∷ memory) (suc l) h k = ap (λ t. b ∷ t) (take_front bs memory l (omega arith) (omega arith))
 
-patched-plain : (l s : ℕ) (memory bs : List ℕ) → s + length bs ≤ l → s + length bs ≤ length memory →
+patched_plain : (l s : ℕ) (memory bs : List ℕ) → s + length bs ≤ l → s + length bs ≤ length memory →
     map free (take l (patched memory s bs)) ≡ overwritten (map free (take l memory)) s bs
-patched-plain l zero memory bs h k =
+patched_plain l zero memory bs h k =
     let z : 0 + length bs ≡ length bs = omega arith in
-    ap (λ (n : ℕ). map free (take l (bs ++ drop n memory))) z ∙ ap (map free) (take-front bs memory l (omega arith) (omega arith))
-    ∙ sym (overlaid-free (take l memory) bs (simp length-take (omega arith)))
-patched-plain l (suc s) [] bs h k = absurd (omega arith)
-patched-plain zero (suc s) (x ∷ memory) bs h k = absurd (omega arith)
-patched-plain (suc l) (suc s) (x ∷ memory) bs h k =
-    rw (suc-add s (length bs)) (ap (λ t. free x ∷ t) (patched-plain l s memory bs (omega arith) (omega arith)))
+    ap (λ (n : ℕ). map free (take l (bs ++ drop n memory))) z ∙ ap (map free) (take_front bs memory l (omega arith) (omega arith))
+    ∙ sym (overlaid_free (take l memory) bs (simp length-take (omega arith)))
+patched_plain l (suc s) [] bs h k = absurd (omega arith)
+patched_plain zero (suc s) (x ∷ memory) bs h k = absurd (omega arith)
+patched_plain (suc l) (suc s) (x ∷ memory) bs h k =
+    rw (suc-add s (length bs)) (ap (λ t. free x ∷ t) (patched_plain l s memory bs (omega arith) (omega arith)))
 
 -- ## The calls, where the range is not refused
 
 module _ {u : Unit {0}} {cells : List ℕ} (memory : List ℕ) (s n : ℕ) (all : cells ≡ take most memory) (lies : Ok u ≡ range_result (length cells) s n) where
   plain_inside : inside (plain memory) s n ≡ true
-  plain_inside = simp (length-map, ← all) (range-inside (length cells) s n lies)
+  plain_inside = simp (length-map, ← all) (range_inside (length cells) s n lies)
 
   pub fits_memory : s + n ≤ min most (length memory)
   fits_memory = let h = range_fits (length cells) s n lies in let e = length-take most memory in let l = ap length all in omega arith
 
-  pub fence-none : Ok None ≡ fence_result (plain memory) s n
-  fence-none = rw (plain_inside, no-fence memory s n)
+  pub fence_none : Ok None ≡ fence_result (plain memory) s n
+  fence_none = rw (plain_inside, no_fence memory s n)
 
 module _ {u : Unit {0}} {cells : List ℕ} (memory : List ℕ) (s : ℕ) (bs : List ℕ) (all : cells ≡ take most memory) (lies : Ok u ≡ range_result (length cells) s (length bs)) where
   -- a buffer after a copy out of that part of the cells
-  pub read-filled : {out : List ℕ} → out ≡ take (s + length bs - s) (drop s cells) → out ≡ read_into (plain memory) s bs
-  read-filled copied =
+  pub read_filled : {out : List ℕ} → out ≡ take (s + length bs - s) (drop s cells) → out ≡ read_into (plain memory) s bs
+  read_filled copied =
       let k : s + length bs - s ≡ length bs = omega arith in
-      rw (plain_inside memory s (length bs) all lies) (copied ∙ simp (k, all, drop-map, take-map, bytes-free))
+      rw (plain_inside memory s (length bs) all lies) (copied ∙ simp (k, all, drop-map, take-map, bytes_free))
 
   -- the memory after a copy into that part of it
-  copied-in : {new : List ℕ} → new ≡ bs → take s memory ++ (new ++ post_of s (s + length bs - s) memory) ≡ patched memory s bs
-  copied-in copied =
+  copied_in : {new : List ℕ} → new ≡ bs → take s memory ++ (new ++ post_of s (s + length bs - s) memory) ≡ patched memory s bs
+  copied_in copied =
       let up : s ≤ s + length bs = omega arith in
       ap₂ (λ (part rest : List ℕ). take s memory ++ (part ++ rest)) copied (Post-is s (s + length bs) memory up)
 
   pub write_done : Ok tt ≡ write_result (plain memory) s bs
-  write_done = rw (plain_inside memory s (length bs) all lies, no-fence memory s (length bs))
+  write_done = rw (plain_inside memory s (length bs) all lies, no_fence memory s (length bs))
 
-  pub memory-left : {new : List ℕ} → new ≡ bs → take s memory ++ (new ++ post_of s (s + length bs - s) memory) ≡ memory_after memory s bs
-  memory-left copied = rw (plain_inside memory s (length bs) all lies) (copied-in copied)
+  pub memory_left : {new : List ℕ} → new ≡ bs → take s memory ++ (new ++ post_of s (s + length bs - s) memory) ≡ memory_after memory s bs
+  memory_left copied = rw (plain_inside memory s (length bs) all lies) (copied_in copied)
 
-  pub write-left : {new : List ℕ} → new ≡ bs → plain (take s memory ++ (new ++ post_of s (s + length bs - s) memory)) ≡ written (plain memory) s bs
-  write-left copied =
+  pub write_left : {new : List ℕ} → new ≡ bs → plain (take s memory ++ (new ++ post_of s (s + length bs - s) memory)) ≡ written (plain memory) s bs
+  write_left copied =
       let h = fits_memory memory s (length bs) all lies in
-      rw (plain_inside memory s (length bs) all lies, no-fence memory s (length bs)) (ap plain (copied-in copied) ∙ patched-plain most s memory bs (omega arith) (omega arith))
+      rw (plain_inside memory s (length bs) all lies, no_fence memory s (length bs)) (ap plain (copied_in copied) ∙ patched_plain most s memory bs (omega arith) (omega arith))

@@ -1,4 +1,7 @@
 // Boards: anything that means an image, and plain memory, the lowest of them.
+//
+// What it promises: each call of a board answers and leaves what the definitions say of its image, a refused call leaves image
+// and buffer, and no call changes what a board was given.
 #![tactic(auto)]
 
 ghost use Rattle.std.specs.Prelude.{◌≡◌, ◌≤◌, length};

@@ -9,11 +9,11 @@ use Rattle.spi.specs.declared.bus_call.BusCall.{BusCall}
 use Rattle.spi.specs.declared.bus_call.BusCall.TheVariants.{Select, Exchange, Deselect}
 use Rattle.spi.specs.Buses.{Bus, after, run, answers}
 use Rattle.spi.specs.Meanings.{made}
-use Rattle.spi.proofs.Keeps.{bus-keeps-enough}
+use Rattle.spi.proofs.Keeps.{bus_keeps_enough}
 
 -- no call changes the sheet
-after-sheet : (b : Bus Registers) (x : BusCall) → (after bounded b x).sheet ≡ b.sheet
-after-sheet b x = by b.session b.fitted x
+after_sheet : (b : Bus Registers) (x : BusCall) → (after bounded b x).sheet ≡ b.sheet
+after_sheet b x = by b.session b.fitted x
   where
     by : (o : Option Registers) (f : Bool) (y : BusCall) →
         (after bounded (record { sheet = b.sheet; wp = b.wp; fitted = f; rec = b.rec; session = o }) y).sheet ≡ b.sheet
@@ -27,7 +27,7 @@ after-sheet b x = by b.session b.fitted x
 
 pub sheet_kept : (b : Bus Registers) (xs : List BusCall) → (run bounded b xs).sheet ≡ b.sheet
 sheet_kept b [] = refl
-sheet_kept b (x ∷ xs) = sheet_kept (after bounded b x) xs ∙ after-sheet b x
+sheet_kept b (x ∷ xs) = sheet_kept (after bounded b x) xs ∙ after_sheet b x
 
 -- from power on: what is kept of a session is enough
 module _ (s : Sheet) (memory : List ℕ) (stored : ℕ) (wp : Bool) (xs : List BusCall) where
@@ -35,7 +35,7 @@ module _ (s : Sheet) (memory : List ℕ) (stored : ℕ) (wp : Bool) (xs : List B
   fresh = powered s memory stored
 
   pub rec_by_rules : (run bounded (made bounded wp (powered s memory stored)) xs).rec ≡ (run whole (made whole wp fresh) xs).rec
-  rec_by_rules = ap (λ (b : Bus Registers). b.rec) (bus-keeps-enough (made whole wp fresh) xs).1
+  rec_by_rules = ap (λ (b : Bus Registers). b.rec) (bus_keeps_enough (made whole wp fresh) xs).1
 
   pub answers_by_rules : answers bounded (made bounded wp (powered s memory stored)) xs ≡ answers whole (made whole wp fresh) xs
-  answers_by_rules = (bus-keeps-enough (made whole wp fresh) xs).0
+  answers_by_rules = (bus_keeps_enough (made whole wp fresh) xs).0

@@ -25,9 +25,9 @@ module _ {M X : Type 0} (after : M → X → M) (answer : M → X → X) (run : 
       pub one_more : (end : M) → run b (drop i xs) ≡ end → run d (drop (i + 1) (set xs i a)) ≡ end
       one_more end h = ap (run d) left ∙ one_on end h
 
-      pub one-answered : (all : List X) → take i xs ++ answers b (drop i xs) ≡ all →
+      pub one_answered : (all : List X) → take i xs ++ answers b (drop i xs) ≡ all →
           take (i + 1) (set xs i a) ++ answers d (drop (i + 1) (set xs i a)) ≡ all
-      one-answered all h =
+      one_answered all h =
           ap₂ (λ (zs ys : List X). zs ++ answers d ys) (take_more_set xs i a l) left
           ∙ append_assoc (take i xs) (a ∷ []) (answers d (drop (i + 1) xs))
           ∙ ap₂ (λ (y : X) (z : M). take i xs ++ y ∷ answers z (drop (i + 1) xs)) is then
@@ -39,8 +39,8 @@ module _ {M X : Type 0} (after : M → X → M) (answer : M → X → X) (run : 
     pub all_made : (end : M) → run b (drop i xs) ≡ end → b ≡ end
     all_made end h = sym (goes.stays b) ∙ sym (at_drop_all (run b) xs i l) ∙ h
 
-    pub all-answered : (all : List X) → take i xs ++ answers b (drop i xs) ≡ all → xs ≡ all
-    all-answered all h =
+    pub all_answered : (all : List X) → take i xs ++ answers b (drop i xs) ≡ all → xs ≡ all
+    all_answered all h =
         sym (append-nil xs)
         ∙ ap₂ (λ (ys zs : List X). ys ++ zs) (sym (take_all i xs l)) (sym (at_drop_all (answers b) xs i l ∙ goes.ends b))
         ∙ h

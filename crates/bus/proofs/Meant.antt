@@ -11,7 +11,7 @@ use Rattle.spi.specs.Samples.{byte_samples}
 use Rattle.spi.specs.Buses.{exchanged, read}
 use Rattle.spi.specs.Lines.{AtLine, call_samples, line_after, byte_read}
 use Rattle.spi.specs.Meanings.{meaning_of, AtRest}
-use Rattle.spi.proofs.Calls.{follows-bounded}
+use Rattle.spi.proofs.Calls.{follows_bounded}
 
 -- the byte of an exchange
 abbrev byte_in : BusCall → ℕ
@@ -30,11 +30,11 @@ module _ (mode : Mode) (wp : Bool) (waits : ℕ) (l : AtLine Registers) (x : ℕ
         (e ∙ ap (λ (t : Bool). puts bounded l.chip (call_samples mode wp waits t (Exchange x))) (sym o))
 
     pub rests : AtRest bounded mode after
-    rests = subst (AtRest bounded mode) (sym did) (follows-bounded mode wp waits l (Exchange x) rest).0
+    rests = subst (AtRest bounded mode) (sym did) (follows_bounded mode wp waits l (Exchange x) rest).0
 
     pub meant : meaning_of bounded wp after ≡ exchanged bounded (meaning_of bounded wp l) x
-    meant = ap (meaning_of bounded wp) did ∙ (follows-bounded mode wp waits l (Exchange x) rest).1
+    meant = ap (meaning_of bounded wp) did ∙ (follows_bounded mode wp waits l (Exchange x) rest).1
 
   pub told : (r : ℕ) → r ≡ byte_read bounded mode wp l.chip (byte_samples mode wp waits x) → r ≡ read bounded (meaning_of bounded wp l) x
   told r e =
-      e ∙ ap (λ (t : Bool). cond t (byte_read bounded mode wp l.chip (byte_samples mode wp waits x)) 0xFF) (sym o) ∙ ap byte_in (follows-bounded mode wp waits l (Exchange x) rest).2
+      e ∙ ap (λ (t : Bool). cond t (byte_read bounded mode wp l.chip (byte_samples mode wp waits x)) 0xFF) (sym o) ∙ ap byte_in (follows_bounded mode wp waits l (Exchange x) rest).2

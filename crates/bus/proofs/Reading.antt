@@ -13,9 +13,9 @@ use Rattle.spi.specs.Lines.{byte_read}
 use Rattle.spi.proofs.Clock.{over}
 use Rattle.spi.proofs.Pieces.{read_more}
 
-bit-small : (r : Bool) → bit r < 2
-bit-small true = omega arith
-bit-small false = omega arith
+bit_small : (r : Bool) → bit r < 2
+bit_small true = omega arith
+bit_small false = omega arith
 
 -- one bit more
 folded : (read r p n m total : ℕ) → read * (2 * p) + n ≡ total → n ≡ r * p + m → (2 * read + r) * p + m ≡ total
@@ -41,5 +41,5 @@ module _ (mode : Mode) (wp : Bool) (n : ℕ) (c d : Chip Registers) (i x : ℕ) 
 pub read_below : (read taken : ℕ) (r : Bool) → read < 2 ^ taken → 2 * read + bit r < 2 ^ (taken + 1)
 read_below read taken r l =
     let p : 2 ^ (taken + 1) ≡ 2 * 2 ^ taken = ap (λ (k : ℕ). 2 ^ k) (omega arith) ∙ pow-succ' 2 taken in
-    let b = bit-small r in
+    let b = bit_small r in
     omega arith

@@ -10,7 +10,7 @@ ghost use Rattle.spi.specs.Buses.{selected, exchanged, read, deselected};
 ghost use Rattle.spi.specs.Meanings.{kept_of, made, AtRest};
 ghost use Rattle.spi.specs.Laws.{ByteAtOnce};
 ghost use Rattle.spi.proofs.Aligned.{session_whole};
-ghost use Rattle.spi.proofs.Rests.{pins-at-prop};
+ghost use Rattle.spi.proofs.Rests.{pins_at_prop};
 
 use crate::Bus;
 use chip::{Pins, Steps};
@@ -23,7 +23,7 @@ pub struct ByteBus<C: Steps> {
     chip: C,
     wp: bool,
     in_session: bool,
-    ghost at_rest: { AtRest bounded Mode0 (record { chip = C.Pins.chip chip; in_session = in_session }) } by { Prim.hlevel pins-at-prop },
+    ghost at_rest: { AtRest bounded Mode0 (record { chip = C.Pins.chip chip; in_session = in_session }) } by { Prim.hlevel pins_at_prop },
     ghost aligned: { whole_bytes (kept_of bounded (C.Pins.chip chip)) ≡ true },
 }
 

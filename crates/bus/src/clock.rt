@@ -38,9 +38,9 @@ fn at_rise(mode: Mode, first: Level, second: Level) -> Level
 
 // Moves SCK away from rest and back, and answers what SO shows at the rise.
 fn clock<P: Pins>(pins: &mut P, setting: Setting, bit: bool) -> Level
+    ensures shows { result ≡ clock_shows bounded setting.mode setting.wp (P.Pins.chip pins.old) bit }
     ensures chip { P.Pins.chip pins.new ≡ puts bounded (P.Pins.chip pins.old) (clock_by setting bit) }
     ensures traced { P.Pins.trace pins.new ≡ tracing P.Pins.traced (P.Pins.trace pins.old) (clock_by setting bit) }
-    ensures shows { result ≡ clock_shows bounded setting.mode setting.wp (P.Pins.chip pins.old) bit }
     ensures lent { P.Pins.lent pins.new ≡ P.Pins.lent pins.old }
 {
     let away = pins.put(setting.clock(bit, !setting.mode.rest(), true));
@@ -50,10 +50,10 @@ fn clock<P: Pins>(pins: &mut P, setting: Setting, bit: bool) -> Level
 
 // Puts a bit, and answers the one that is read at the rise.
 fn put_bit<P: Pins>(pins: &mut P, setting: Setting, bit: bool) -> bool
-    ensures chip { P.Pins.chip pins.new ≡ puts bounded (P.Pins.chip pins.old) (bit_by setting bit) }
-    ensures traced { P.Pins.trace pins.new ≡ tracing P.Pins.traced (P.Pins.trace pins.old) (bit_by setting bit) }
     ensures read { at_rises (rest setting.mode) (bit_by setting bit)
         (shown_by bounded (P.Pins.chip pins.old) (bit_by setting bit)) ≡ result ∷ [] }
+    ensures chip { P.Pins.chip pins.new ≡ puts bounded (P.Pins.chip pins.old) (bit_by setting bit) }
+    ensures traced { P.Pins.trace pins.new ≡ tracing P.Pins.traced (P.Pins.trace pins.old) (bit_by setting bit) }
     ensures lent { P.Pins.lent pins.new ≡ P.Pins.lent pins.old }
 {
     pause(pins, setting, bit);
@@ -62,9 +62,9 @@ fn put_bit<P: Pins>(pins: &mut P, setting: Setting, bit: bool) -> bool
 
 // Puts the eight bits of a byte, the highest first, and answers the byte that is read.
 pub(crate) fn put_byte<P: Pins>(pins: &mut P, setting: Setting, byte: u8) -> u8
+    ensures read { result ≡ byte_read bounded setting.mode setting.wp (P.Pins.chip pins.old) (byte_by setting byte) }
     ensures chip { P.Pins.chip pins.new ≡ puts bounded (P.Pins.chip pins.old) (byte_by setting byte) }
     ensures traced { P.Pins.trace pins.new ≡ tracing P.Pins.traced (P.Pins.trace pins.old) (byte_by setting byte) }
-    ensures read { result ≡ byte_read bounded setting.mode setting.wp (P.Pins.chip pins.old) (byte_by setting byte) }
     ensures lent { P.Pins.lent pins.new ≡ P.Pins.lent pins.old }
 {
     let mut read = 0u8;

@@ -1,4 +1,7 @@
 // Byte buses: what can be selected, exchange bytes and be deselected. A chip stepped by bytes, and a line that moves the pins.
+//
+// What it promises: each call does to what the bus means what the definitions say, whichever bus it is; a line's calls state
+// the list of their samples; and no call changes what a bus was given.
 #![tactic(auto)]
 
 ghost use Rattle.std.specs.Prelude.{◌≡◌, true};

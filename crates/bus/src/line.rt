@@ -9,7 +9,7 @@ ghost use Rattle.spi.specs.Bytewise.{whole_bytes};
 ghost use Rattle.spi.specs.Buses.{selected, exchanged, read, deselected};
 ghost use Rattle.spi.specs.Meanings.{kept_of, made, AtRest};
 ghost use Rattle.spi.proofs.Aligned.{session_whole};
-ghost use Rattle.spi.proofs.Rests.{pins-at-prop};
+ghost use Rattle.spi.proofs.Rests.{pins_at_prop};
 ghost use Rattle.spi.specs.Laws.{ByteAtPins, Follows, Makes};
 
 use crate::clock::put_byte;
@@ -24,7 +24,7 @@ pub struct Line<P: Pins> {
     pins: P,
     setting: Setting,
     in_session: bool,
-    ghost at_rest: { AtRest bounded setting.mode (record { chip = P.Pins.chip pins; in_session = in_session }) } by { Prim.hlevel pins-at-prop },
+    ghost at_rest: { AtRest bounded setting.mode (record { chip = P.Pins.chip pins; in_session = in_session }) } by { Prim.hlevel pins_at_prop },
     ghost aligned: { whole_bytes (kept_of bounded (P.Pins.chip pins)) ≡ true },
 }
 

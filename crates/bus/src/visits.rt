@@ -22,9 +22,9 @@ pub enum Way {
 // Makes calls over a line to these pins.
 #[tactic(auto, using(crate::proofs::ByRules::sheet_kept))]
 fn over_line<P: Pins>(pins: &mut P, setting: Setting, calls: &mut [BusCall])
+    ensures answers { calls.new ≡ answers bounded (made bounded setting.wp (P.Pins.chip pins.old)) calls.old }
     ensures rec { (P.Pins.chip pins.new).rec ≡ (run bounded (made bounded setting.wp (P.Pins.chip pins.old)) calls.old).rec }
     ensures sheet { (P.Pins.chip pins.new).sheet ≡ (P.Pins.chip pins.old).sheet }
-    ensures answers { calls.new ≡ answers bounded (made bounded setting.wp (P.Pins.chip pins.old)) calls.old }
     ensures lent { P.Pins.lent pins.new ≡ P.Pins.lent pins.old }
 {
     let mut line = Line::new(pins, setting);
@@ -34,9 +34,9 @@ fn over_line<P: Pins>(pins: &mut P, setting: Setting, calls: &mut [BusCall])
 // Makes calls of a chip stepped by bytes.
 #[tactic(auto, using(crate::proofs::ByRules::sheet_kept))]
 fn over_bytes<C: Steps>(chip: &mut C, wp: bool, calls: &mut [BusCall])
+    ensures answers { calls.new ≡ answers bounded (made bounded wp (C.Pins.chip chip.old)) calls.old }
     ensures rec { (C.Pins.chip chip.new).rec ≡ (run bounded (made bounded wp (C.Pins.chip chip.old)) calls.old).rec }
     ensures sheet { (C.Pins.chip chip.new).sheet ≡ (C.Pins.chip chip.old).sheet }
-    ensures answers { calls.new ≡ answers bounded (made bounded wp (C.Pins.chip chip.old)) calls.old }
     ensures lent { C.Pins.lent chip.new ≡ C.Pins.lent chip.old }
 {
     let mut bus = ByteBus::new(chip, wp);
@@ -45,9 +45,9 @@ fn over_bytes<C: Steps>(chip: &mut C, wp: bool, calls: &mut [BusCall])
 
 // The same, whichever bus is taken.
 fn over<C: Steps>(chip: &mut C, way: Way, calls: &mut [BusCall])
+    ensures answers { calls.new ≡ answers bounded (made bounded (wp_of way) (C.Pins.chip chip.old)) calls.old }
     ensures rec { (C.Pins.chip chip.new).rec ≡ (run bounded (made bounded (wp_of way) (C.Pins.chip chip.old)) calls.old).rec }
     ensures sheet { (C.Pins.chip chip.new).sheet ≡ (C.Pins.chip chip.old).sheet }
-    ensures answers { calls.new ≡ answers bounded (made bounded (wp_of way) (C.Pins.chip chip.old)) calls.old }
     ensures lent { C.Pins.lent chip.new ≡ C.Pins.lent chip.old }
 {
     match way {
@@ -61,10 +61,10 @@ fn over<C: Steps>(chip: &mut C, way: Way, calls: &mut [BusCall])
 // bus is taken.
 #[tactic(auto, using(crate::proofs::Laws::same, crate::proofs::Laws::lines, crate::proofs::Laws::sessions, crate::proofs::Laws::as_calls))]
 pub fn visit(parked: ParkedChip, memory: &mut [u8], way: Way, calls: &mut [BusCall]) -> ParkedChip
-    ensures sheet { result.sheet ≡ parked.sheet }
-    ensures stored { result.stored.bits ≡ (run whole (made whole (wp_of way) (powered parked.sheet memory.old parked.stored.bits)) calls.old).rec.stored }
-    ensures memory { memory.new ≡ (run whole (made whole (wp_of way) (powered parked.sheet memory.old parked.stored.bits)) calls.old).rec.memory }
     ensures answers { calls.new ≡ answers whole (made whole (wp_of way) (powered parked.sheet memory.old parked.stored.bits)) calls.old }
+    ensures memory { memory.new ≡ (run whole (made whole (wp_of way) (powered parked.sheet memory.old parked.stored.bits)) calls.old).rec.memory }
+    ensures stored { result.stored.bits ≡ (run whole (made whole (wp_of way) (powered parked.sheet memory.old parked.stored.bits)) calls.old).rec.stored }
+    ensures sheet { result.sheet ≡ parked.sheet }
     ensures same { (Same whole) × (Same bounded) × BothBuses }
     ensures lines { (LineIsBus whole) × (LineIsBus bounded) }
     ensures sessions { (SessionSamples whole) × (SessionSamples bounded) }

@@ -1,4 +1,4 @@
-// Trials of the buses: sessions over the chip stepped by bytes and over lines, and the samples of a line.
+// Trials of the buses: sessions over the chip stepped by bytes and over lines, and the samples of a line. Tests alone.
 #![tactic(auto)]
 
 #[cfg(test)]

@@ -5,8 +5,8 @@ use Rattle.datasheet.specs.Sheets.{cells}
 use Rattle.datasheet.specs.Chips.{whole}
 use Rattle.datasheet.specs.Kept.{bounded}
 use Rattle.laws.specs.Laws.{Fitted, StaysFitted, Alike, ToldApart}
-use Rattle.laws.proofs.Apart.{told-apart, told-apart-whole}
-use Rattle.laws.proofs.Stays.{stays-fitted, stays-fitted-whole}
+use Rattle.laws.proofs.Apart.{told_apart, told_apart_whole}
+use Rattle.laws.proofs.Stays.{stays_fitted, stays_fitted_whole}
 use Rattle.chip.specs.declared.chip.Chip.{Chip}
 use Rattle.chip.specs.Views.{chip_of, record_of, pins_of, Resting}
 
@@ -26,13 +26,13 @@ fitted c h =
 pub told : (a b : Chip) (r : Bool) → Decides r (record_of a ≡ record_of b) →
     Resting a → Resting b → a.sheet ≡ b.sheet → Decides r (Alike bounded (chip_of a) (chip_of b))
 told a b r d ha hb e =
-    let t = told-apart (chip_of a) (chip_of b) (fitted a ha) (fitted b hb) (ap pins_of ha.1) (ap pins_of hb.1) e in
+    let t = told_apart (chip_of a) (chip_of b) (fitted a ha) (fitted b hb) (ap pins_of ha.1) (ap pins_of hb.1) e in
     Decides-like r t.0 t.1 d
 
 -- the law of chips, by the rules and as the code keeps a session
 pub apart : (ToldApart whole) × (ToldApart bounded)
-apart = (told-apart-whole, told-apart)
+apart = (told_apart_whole, told_apart)
 
 -- a fitted chip stays fitted, by the rules and as the code keeps a session
 pub stays : (StaysFitted whole) × (StaysFitted bounded)
-stays = (stays-fitted-whole, stays-fitted)
+stays = (stays_fitted_whole, stays_fitted)

@@ -48,14 +48,14 @@ module _ (b : Bus Registers) (size free start : ℕ) (sizes : size ≡ length (i
   same_fence zero inside = refl
   same_fence (suc n) inside = ap (λ (k : ℕ). holds k (suc n)) (frees (is_there (suc n) (omega arith) inside))
 
-  same-place : (count : ℕ) → start + count ≤ size → cond (holds free count) (Some (max start free)) None ≡ cond (holds fp count) (Some (max start fp)) None
-  same-place zero inside = refl
-  same-place (suc n) inside = ap (λ (k : ℕ). cond (holds k (suc n)) (Some (max start k)) None) (frees (is_there (suc n) (omega arith) inside))
+  same_place : (count : ℕ) → start + count ≤ size → cond (holds free count) (Some (max start free)) None ≡ cond (holds fp count) (Some (max start fp)) None
+  same_place zero inside = refl
+  same_place (suc n) inside = ap (λ (k : ℕ). cond (holds k (suc n)) (Some (max start k)) None) (frees (is_there (suc n) (omega arith) inside))
 
   pub fence_answer : {u : Unit {0}} (count : ℕ) → Ok u ≡ range_result size start count →
       Ok (cond (holds free count) (Some (max start free)) None) ≡ fence_result (image_of b) start count
   fence_answer count lies =
-      sym (fence_accepted b size start (sym sizes) count lies ∙ ap (λ (o : Option ℕ). Ok o) (sym (same-place count (range_fits size start count lies))))
+      sym (fence_accepted b size start (sym sizes) count lies ∙ ap (λ (o : Option ℕ). Ok o) (sym (same_place count (range_fits size start count lies))))
 
   pub filled_by : {u : Unit {0}} (buffer new : List ℕ) (c : Bus Registers) → Ok u ≡ range_result size start (length buffer) → c ≡ calm b →
       new ≡ take (length buffer) (drop start c.rec.memory) → new ≡ read_into (image_of b) start buffer
@@ -64,8 +64,8 @@ module _ (b : Bus Registers) (size free start : ℕ) (sizes : size ≡ length (i
       ∙ sym (read_accepted b size start (sym sizes) buffer lies)
 
   module _ {u : Unit {0}} (bytes : List ℕ) (lies : Ok u ≡ range_result size start (length bytes)) where
-    result-is : write_result (image_of b) start bytes ≡ cond (holds free (length bytes)) (Err Fenced) (Ok tt)
-    result-is =
+    result_is : write_result (image_of b) start bytes ≡ cond (holds free (length bytes)) (Err Fenced) (Ok tt)
+    result_is =
         write_accepted b size start (sym sizes) bytes lies
         ∙ ap (λ (t : Bool). cond t (Err Fenced) (Ok tt)) (sym (same_fence (length bytes) (range_fits size start (length bytes) lies)))
 
@@ -75,14 +75,14 @@ module _ (b : Bus Registers) (size free start : ℕ) (sizes : size ≡ length (i
 
     module _ (w : holds free (length bytes) ≡ true) where
       pub fenced_result : Err Fenced ≡ write_result (image_of b) start bytes
-      fenced_result = sym (result-is ∙ ap (λ (t : Bool). cond t (Err Fenced) (Ok tt)) w)
+      fenced_result = sym (result_is ∙ ap (λ (t : Bool). cond t (Err Fenced) (Ok tt)) w)
 
       pub fenced_left : calm b ≡ after_write b start bytes
       fenced_left = ap left_by fenced_result
 
     module _ (w : holds free (length bytes) ≡ false) where
       pub free_result : Ok tt ≡ write_result (image_of b) start bytes
-      free_result = sym (result-is ∙ ap (λ (t : Bool). cond t (Err Fenced) (Ok tt)) w)
+      free_result = sym (result_is ∙ ap (λ (t : Bool). cond t (Err Fenced) (Ok tt)) w)
 
       -- the bytes were put into the cells of a chip that is calm
       pub written_left : 0 < length bytes → (c d : Bus Registers) → c ≡ calm b → d ≡ becoming c (calmed c.rec (patched c.rec.memory start bytes)) None → d ≡ after_write b start bytes

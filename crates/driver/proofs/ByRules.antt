@@ -17,11 +17,11 @@ use Rattle.driver.specs.Left.{samples, left_by}
 use Rattle.driver.specs.Drives.{image_of, after_write}
 
 -- a bus made over a chip that keeps what is needed
-made-kept : (wp : Bool) (s : Sheet) (f : Bool) (r : Record) (p : Pins (List Bool)) →
+made_kept : (wp : Bool) (s : Sheet) (f : Bool) (r : Record) (p : Pins (List Bool)) →
     let d : Chip (List Bool) = record { sheet = s; fitted = f; rec = r; pins = p } in
     made bounded wp (kept_chip d) ≡ kept_bus (made whole wp d)
-made-kept wp s f r deselected = refl
-made-kept wp s f r (selected sck hold bits so) =
+made_kept wp s f r deselected = refl
+made_kept wp s f r (selected sck hold bits so) =
     ap (λ (q : Record). record { sheet = s; wp = wp; fitted = f; rec = cond f (cond r.asleep (waking r) q) r; session = None }) (end_same s r bits)
 
 -- from power on, through these samples, to the bus of a line
@@ -32,7 +32,7 @@ found_kept s memory stored before wp c e h k =
     let fresh : Chip (List Bool) = powered s memory stored in
     let left : Chip (List Bool) = run whole fresh (samples before) in
     ap (made bounded wp) (k ∙ ap (λ (d : Chip Registers). run bounded d (samples before)) h ∙ (enough fresh (samples before)).1)
-    ∙ made-kept wp left.sheet left.fitted left.rec left.pins
+    ∙ made_kept wp left.sheet left.fitted left.rec left.pins
 
 -- what a write and a read came to over a bus is what they come to over one that means the same
 pub same_bus : {b c : Bus Registers} (start : ℕ) (bytes buffer : List ℕ) {new : List ℕ} {written read : Result (Unit {0}) Refusal} → b ≡ c →

@@ -14,7 +14,7 @@ use Rattle.datasheet.specs.Kept.{bounded, fall_kept}
 use Rattle.spi.specs.Steps.{Moment}
 use Rattle.spi.specs.Bytewise.{whole_bytes, taken_byte, record_after, shown_byte, read_byte}
 use Rattle.spi.specs.Buses.{Bus, moment_in, exchanged, read}
-use Rattle.spi.proofs.Bytewise.{byte-at-once, shown-bit}
+use Rattle.spi.proofs.Bytewise.{byte_at_once, shown_bit}
 
 -- a bus over a fitted chip with this kept of its session
 abbrev pub within : Sheet → Bool → Record → Registers → Bus Registers
@@ -24,8 +24,8 @@ within s wp r k = record { sheet = s; wp = wp; fitted = true; rec = r; session =
 abbrev pub showing : Sheet → Record → Registers → ℕ
 showing s r k = shown_byte s (command_at s k.count k.code) r k.count k.place
 
-shown-small : (s : Sheet) (c : Option Command) (r : Record) (n a : ℕ) → shown_byte s c r n a < 256
-shown-small s c r n a = grind arith
+shown_small : (s : Sheet) (c : Option Command) (r : Record) (n a : ℕ) → shown_byte s c r n a < 256
+shown_small s c r n a = grind arith
 
 top_bit : (y : ℕ) → y < 256 → 128 * bit (bit_at 7 y) + y % 128 ≡ y
 top_bit y h = grind arith
@@ -47,24 +47,24 @@ module _ (s : Sheet) (wp : Bool) (r : Record) (k : Registers) (x : ℕ) (whole :
 
   pub exchanged_is : r.asleep ≡ false → exchanged bounded (within s wp r k) x ≡ within s wp (record_after s wp r k x) (taken_byte s k x)
   exchanged_is a =
-      ap (λ (m : Moment Registers). within s wp m.rec m.kept) ((byte-at-once s wp now x whole small).0 ∙ ap next a)
+      ap (λ (m : Moment Registers). within s wp m.rec m.kept) ((byte_at_once s wp now x whole small).0 ∙ ap next a)
 
-  count-whole : k.count % 8 ≡ 0
-  count-whole = grind arith
+  count_whole : k.count % 8 ≡ 0
+  count_whole = grind arith
 
-  read-shown : r.asleep ≡ false → read_byte s now ≡ showing s r k
-  read-shown a =
+  read_shown : r.asleep ≡ false → read_byte s now ≡ showing s r k
+  read_shown a =
       let n = k.count in
       let seven : n + 7 - n ≡ 7 = omega arith in
       let so : read_as now.so ≡ bit_at 7 (showing s r k) =
       ap (λ (t : Bool). read_as (cond t HighZ (fall_kept s r k))) a
-      ∙ shown-bit n n count-whole (omega arith) (omega arith) s k.code r k.place
+      ∙ shown_bit n n count_whole (omega arith) (omega arith) s k.code r k.place
       ∙ ap (λ (i : ℕ). bit_at i (showing s r k)) seven in
       ap₂ (λ (t u : Bool). 128 * bit t + cond u 127 (showing s r k % 128)) so a
-      ∙ top_bit (showing s r k) (shown-small s (command_at s n k.code) r n k.place)
+      ∙ top_bit (showing s r k) (shown_small s (command_at s n k.code) r n k.place)
 
   pub read_is : r.asleep ≡ false → read bounded (within s wp r k) x ≡ showing s r k
-  read_is a = (byte-at-once s wp now x whole small).1 ∙ read-shown a
+  read_is a = (byte_at_once s wp now x whole small).1 ∙ read_shown a
 
 -- ## Sessions of a chip that is awake
 

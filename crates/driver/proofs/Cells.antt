@@ -7,7 +7,7 @@ use Rattle.std.proofs.lemmas.Bool.Decides.{nat_tests, leb_tells}
 use Rattle.image.specs.declared.Cell.{Cell}
 use Rattle.image.specs.Images.{Image, bytes_of, part, first_fenced, fence_in, overlaid, overwritten, free}
 use Rattle.image.specs.Results.{range_result, fence_result, read_result, read_into, unless_fenced, write_result, if_accepted, written}
-use Rattle.image.proofs.Cells.{range-inside, refused_by}
+use Rattle.image.proofs.Cells.{range_inside, refused_by}
 use Rattle.board.specs.Plains.{patched}
 use Rattle.datasheet.specs.declared.refusal.Refusal.{Refusal}
 use Rattle.datasheet.specs.declared.refusal.Refusal.TheVariants.{OutOfRange, Fenced}
@@ -220,16 +220,16 @@ module _ {S : Type 0} {u : Unit {0}} (b : Bus S) (size start : ℕ) (e : length 
   pub fence_accepted : (count : ℕ) → Ok u ≡ range_result size start count →
       fence_result (image_of b) start count
       ≡ Ok (cond (nat_lt 0 count && nat_lt (first_protected b.sheet b.rec) (start + count)) (Some (max start (first_protected b.sheet b.rec))) None)
-  fence_accepted count lies = fence_value b size start count e ∙ rw (range-inside size start count lies)
+  fence_accepted count lies = fence_value b size start count e ∙ rw (range_inside size start count lies)
 
   pub read_accepted : (buffer : List ℕ) → Ok u ≡ range_result size start (length buffer) →
       read_into (image_of b) start buffer ≡ take (length buffer) (drop start b.rec.memory)
-  read_accepted buffer lies = read_image b size start buffer e ∙ rw (range-inside size start (length buffer) lies)
+  read_accepted buffer lies = read_image b size start buffer e ∙ rw (range_inside size start (length buffer) lies)
 
   pub write_accepted : (bytes : List ℕ) → Ok u ≡ range_result size start (length bytes) →
       write_result (image_of b) start bytes
       ≡ cond (nat_lt 0 (length bytes) && nat_lt (first_protected b.sheet b.rec) (start + length bytes)) (Err Fenced) (Ok tt)
-  write_accepted bytes lies = write_value b size start bytes e ∙ rw (range-inside size start (length bytes) lies)
+  write_accepted bytes lies = write_value b size start bytes e ∙ rw (range_inside size start (length bytes) lies)
 
 module _ {S : Type 0} {x : Refusal} (b : Bus S) (size start : ℕ) (e : length (image_of b) ≡ size) where
   pub fence_refused : (count : ℕ) → Err x ≡ range_result size start count → fence_result (image_of b) start count ≡ Err x

@@ -10,8 +10,8 @@ use Rattle.driver.specs.Exchanges.{all_read}
 use Rattle.driver.specs.Drives.{calm, identity_of, density_by, probed}
 use Rattle.driver.proofs.WholeSessions.{calm_rested, identified, blank_read}
 
-sheet-known : (s : Sheet) → is_sheet s.t ≡ true
-sheet-known s =
+sheet_known : (s : Sheet) → is_sheet s.t ≡ true
+sheet_known s =
     let h = s.known in
     grind arith
 
@@ -24,7 +24,7 @@ id_known b = go b.fitted refl
     go : (f : Bool) → b.fitted ≡ f → density_by (identity_of b) ≡ probed b
     go true e =
         ap density_by (ap (λ (d : Bus Registers). all_read bounded (selected bounded d) ids) (calm_rested b e) ∙ identified b.sheet b.wp b.rec.memory b.rec.stored)
-        ∙ ap (λ (t : Bool). cond t (Ok (density_of b.sheet.t)) (Err UnknownId)) (sheet-known b.sheet)
+        ∙ ap (λ (t : Bool). cond t (Ok (density_of b.sheet.t)) (Err UnknownId)) (sheet_known b.sheet)
         ∙ ap (λ (f : Bool). cond f (Ok (density_of b.sheet.t)) (Err UnknownId)) (sym e)
     go false e =
         ap density_by (blank_read (calm b) ids e)

@@ -16,11 +16,11 @@ use Rattle.driver.proofs.WholeSessions.{rested, sent, cells_read, cells_left, ce
 split : (start : ℕ) → 256 * (start / 256) + start % 256 ≡ start
 split start = omega arith
 
-high-small : (start : ℕ) → start < 65536 → start / 256 < 256
-high-small start h = omega arith
+high_small : (start : ℕ) → start < 65536 → start / 256 < 256
+high_small start h = omega arith
 
-low-small : (start : ℕ) → start % 256 < 256
-low-small start = omega arith
+low_small : (start : ℕ) → start % 256 < 256
+low_small start = omega arith
 
 module _ (b : Bus Registers) (h : b ≡ calm b) (e : b.fitted ≡ true) (m : SoundMemory b.sheet b.fitted b.rec.memory) (start : ℕ) (small : start < 65536)
     (xs : List ℕ) (bytes : (i : ℕ) → slice_index xs i < 256) where
@@ -44,18 +44,18 @@ module _ (b : Bus Registers) (h : b ≡ calm b) (e : b.fitted ≡ true) (m : Sou
     pub read_filled : all_read bounded (addressed b 0x03) xs ≡ take (length xs) (drop start b.rec.memory)
     read_filled =
         ap (λ (d : Bus Registers). all_read bounded (addressed d 0x03) xs) (is_rested b h e)
-        ∙ cells_read b.sheet b.wp b.rec.memory b.rec.stored size m.bytes (start / 256) (start % 256) xs (high-small start small) (low-small start) bytes fits
+        ∙ cells_read b.sheet b.wp b.rec.memory b.rec.stored size m.bytes (start / 256) (start % 256) xs (high_small start small) (low_small start) bytes fits
         ∙ ap (λ (k : ℕ). take (length xs) (drop k b.rec.memory)) (split start)
 
     pub read_left : deselected bounded (all_exchanged bounded (addressed b 0x03) xs) ≡ b
     read_left =
         ap (λ (d : Bus Registers). deselected bounded (all_exchanged bounded (addressed d 0x03) xs)) (is_rested b h e)
-        ∙ cells_left b.sheet b.wp b.rec.memory b.rec.stored size m.bytes (start / 256) (start % 256) xs (high-small start small) (low-small start) bytes fits
+        ∙ cells_left b.sheet b.wp b.rec.memory b.rec.stored size m.bytes (start / 256) (start % 256) xs (high_small start small) (low_small start) bytes fits
         ∙ sym (is_rested b h e)
 
   module _ (free : start + length xs ≤ first_protected b.sheet b.rec) where
-    fits-free : 256 * (start / 256) + start % 256 + length xs ≤ first_protected b.sheet b.rec
-    fits-free =
+    fits_free : 256 * (start / 256) + start % 256 + length xs ≤ first_protected b.sheet b.rec
+    fits_free =
         let a = split start in
         omega arith
 
@@ -69,6 +69,6 @@ module _ (b : Bus Registers) (h : b ≡ calm b) (e : b.fitted ≡ true) (m : Sou
         ap end (is_rested b h e)
         ∙ ap mid (enabled b.sheet b.wp b.rec.memory b.rec.stored false)
         ∙ ap (λ (d : Bus Registers). deselected bounded (sent d (0x04 ∷ [])))
-        (cells_written b.sheet b.wp b.rec.memory b.rec.stored size (start / 256) (start % 256) xs (high-small start small) (low-small start) bytes fits-free)
+        (cells_written b.sheet b.wp b.rec.memory b.rec.stored size (start / 256) (start % 256) xs (high_small start small) (low_small start) bytes fits_free)
         ∙ disabled b.sheet b.wp (patched b.rec.memory (256 * (start / 256) + start % 256) xs) b.rec.stored (not b.sheet.marks.drop)
         ∙ ap₂ (λ (k : ℕ) (f : Bool). record { sheet = b.sheet; wp = b.wp; fitted = f; rec = calmed b.rec (patched b.rec.memory k xs); session = None }) (split start) (sym e)

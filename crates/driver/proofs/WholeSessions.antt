@@ -32,11 +32,11 @@ sent b xs = all_exchanged bounded (selected bounded b) xs
 -- ## Bytes
 
 -- no rise changes the sleep mark, and a byte more leaves whole bytes
-effect-asleep : (s : Sheet) (c : Option Command) (wp : Bool) (r : Record) (n a x : ℕ) → (effect s c wp r n a x).asleep ≡ r.asleep
-effect-asleep s c wp r n a x = grind arith
+effect_asleep : (s : Sheet) (c : Option Command) (wp : Bool) (r : Record) (n a x : ℕ) → (effect s c wp r n a x).asleep ≡ r.asleep
+effect_asleep s c wp r n a x = grind arith
 
-taken-whole : (s : Sheet) (k : Registers) (x : ℕ) → whole_bytes k ≡ true → whole_bytes (taken_byte s k x) ≡ true
-taken-whole s k x h = grind arith
+taken_whole : (s : Sheet) (k : Registers) (x : ℕ) → whole_bytes k ≡ true → whole_bytes (taken_byte s k x) ≡ true
+taken_whole s k x h = grind arith
 
 -- all of these are bytes
 abbrev Small : List ℕ → Type 0
@@ -68,7 +68,7 @@ module _ (s : Sheet) (wp : Bool) where
   bytes_taken (x ∷ xs) h r k a w =
       let e = exchanged_is s wp r k x w h.0 a in
       let next = taken_byte s k x in
-      let t = bytes_taken xs h.1 (record_after s wp r k x) next (effect-asleep s (command_at s next.count next.code) wp r next.count k.place x ∙ a) (taken-whole s k x w) in (
+      let t = bytes_taken xs h.1 (record_after s wp r k x) next (effect_asleep s (command_at s next.count next.code) wp r next.count k.place x ∙ a) (taken_whole s k x w) in (
         ap (λ (b : Bus Registers). all_exchanged bounded b xs) e ∙ t.0,
         ap₂ (λ (y : ℕ) (ys : List ℕ). y ∷ ys) (read_is s wp r k x w h.0 a) (ap (λ (b : Bus Registers). all_read bounded b xs) e ∙ t.1),
       )
@@ -88,15 +88,15 @@ module _ (s : Sheet) (wp : Bool) (memory : List ℕ) (stored : ℕ) where
 abbrev calmly : Record → Record
 calmly r = calmed r r.memory
 
-ended-kept : (s : Sheet) (c : Option Command) (r : Record) (n : ℕ) → calmly (ended s c r n) ≡ calmly r
-ended-kept s c r n = grind arith
+ended_kept : (s : Sheet) (c : Option Command) (r : Record) (n : ℕ) → calmly (ended s c r n) ≡ calmly r
+ended_kept s c r n = grind arith
 
-closed-kept : (s : Sheet) (r : Record) (k : Registers) → calmly (closed bounded s r k) ≡ calmly r
-closed-kept s r k = go r.asleep
+closed_kept : (s : Sheet) (r : Record) (k : Registers) → calmly (closed bounded s r k) ≡ calmly r
+closed_kept s r k = go r.asleep
   where
     go : (a : Bool) → calmly (cond a (waking r) (ended s (command_at s k.count k.code) r k.count)) ≡ calmly r
     go true = refl
-    go false = ended-kept s (command_at s k.count k.code) r k.count
+    go false = ended_kept s (command_at s k.count k.code) r k.count
 
 module _ (s : Sheet) (wp : Bool) where
   abbrev bus : Bool → Record → Option Registers → Bus Registers
@@ -106,16 +106,16 @@ module _ (s : Sheet) (wp : Bool) where
   abbrev woken : Bus Registers → Bus Registers
   woken b = deselected bounded (exchanged bounded (selected bounded (deselected bounded (selected bounded b))) 0x04)
 
-  from-none : (memory : List ℕ) (stored : ℕ) (w a : Bool) →
+  from_none : (memory : List ℕ) (stored : ℕ) (w a : Bool) →
       woken (bus true (record { memory = memory; stored = stored; latch = w; asleep = a }) None) ≡ rested s wp memory stored false
-  from-none memory stored w true = disabled s wp memory stored w
-  from-none memory stored w false = disabled s wp memory stored w
+  from_none memory stored w true = disabled s wp memory stored w
+  from_none memory stored w false = disabled s wp memory stored w
 
   brought : (f : Bool) (r : Record) (o : Option Registers) → woken (deselected bounded (bus f r o)) ≡ calm (bus f r o)
-  brought true r None = from-none r.memory r.stored r.latch r.asleep
+  brought true r None = from_none r.memory r.stored r.latch r.asleep
   brought true r (Some k) =
       let q = closed bounded s r k in
-      from-none q.memory q.stored q.latch q.asleep ∙ ap (λ (x : Record). bus true x None) (closed-kept s r k)
+      from_none q.memory q.stored q.latch q.asleep ∙ ap (λ (x : Record). bus true x None) (closed_kept s r k)
   brought false r None = refl
   brought false r (Some k) = refl
 
@@ -136,68 +136,68 @@ calm_rested b e = go b.fitted e
 -- ## A blank chip
 
 module _ (s : Sheet) (wp : Bool) (r : Record) where
-  blank-on : (k : Registers) (xs : List ℕ) →
+  blank_on : (k : Registers) (xs : List ℕ) →
       (all_exchanged bounded (bus s wp false r (Some k)) xs ≡ bus s wp false r (Some k))
       × (all_read bounded (bus s wp false r (Some k)) xs ≡ replicate (length xs) 0xFF)
-  blank-on k [] = (refl, refl)
-  blank-on k (x ∷ xs) =
-      let t = blank-on k xs in (t.0, ap (λ (ys : List ℕ). 0xFF ∷ ys) t.1)
+  blank_on k [] = (refl, refl)
+  blank_on k (x ∷ xs) =
+      let t = blank_on k xs in (t.0, ap (λ (ys : List ℕ). 0xFF ∷ ys) t.1)
 
-  blank-any : (f : Bool) (o : Option Registers) (xs : List ℕ) → f ≡ false →
+  blank_any : (f : Bool) (o : Option Registers) (xs : List ℕ) → f ≡ false →
       (all_read bounded (selected bounded (bus s wp f r o)) xs ≡ replicate (length xs) 0xFF)
       × (deselected bounded (sent (bus s wp f r o) xs) ≡ calm (bus s wp f r o))
-  blank-any true o xs e = absurd (cc)
-  blank-any false None xs e = let t = blank-on bounded.begin xs in (t.1, ap (deselected bounded) t.0)
-  blank-any false (Some k) xs e = let t = blank-on k xs in (t.1, ap (deselected bounded) t.0)
+  blank_any true o xs e = absurd (cc)
+  blank_any false None xs e = let t = blank_on bounded.begin xs in (t.1, ap (deselected bounded) t.0)
+  blank_any false (Some k) xs e = let t = blank_on k xs in (t.1, ap (deselected bounded) t.0)
 
 pub blank_read : (b : Bus Registers) (xs : List ℕ) → b.fitted ≡ false → all_read bounded (selected bounded b) xs ≡ replicate (length xs) 0xFF
-blank_read b xs e = (blank-any b.sheet b.wp b.rec b.fitted b.session xs e).0
+blank_read b xs e = (blank_any b.sheet b.wp b.rec b.fitted b.session xs e).0
 
 pub blank_left : (b : Bus Registers) (xs : List ℕ) → b.fitted ≡ false → deselected bounded (sent b xs) ≡ calm b
-blank_left b xs e = (blank-any b.sheet b.wp b.rec b.fitted b.session xs e).1
+blank_left b xs e = (blank_any b.sheet b.wp b.rec b.fitted b.session xs e).1
 
 -- ## The ID and the status
 
-abbrev id-bytes : List ℕ
-id-bytes = 0x9F ∷ 0 ∷ 0 ∷ 0 ∷ 0 ∷ []
+abbrev id_bytes : List ℕ
+id_bytes = 0x9F ∷ 0 ∷ 0 ∷ 0 ∷ 0 ∷ []
 
-id-small : Small id-bytes
-id-small = (omega arith, (omega arith, (omega arith, (omega arith, (omega arith, tt)))))
+id_small : Small id_bytes
+id_small = (omega arith, (omega arith, (omega arith, (omega arith, (omega arith, tt)))))
 
-status-small : Small (0x05 ∷ 0 ∷ [])
-status-small = (omega arith, (omega arith, tt))
+status_small : Small (0x05 ∷ 0 ∷ [])
+status_small = (omega arith, (omega arith, tt))
 
-id-first : (s : Sheet) → identity s / 2 ^ 24 % 256 ≡ 0x04
-id-first s = omega (arith, s.bytes)
+id_first : (s : Sheet) → identity s / 2 ^ 24 % 256 ≡ 0x04
+id_first s = omega (arith, s.bytes)
 
-id-second : (s : Sheet) → identity s / 2 ^ 16 % 256 ≡ 0x7F
-id-second s = omega (arith, s.bytes)
+id_second : (s : Sheet) → identity s / 2 ^ 16 % 256 ≡ 0x7F
+id_second s = omega (arith, s.bytes)
 
-id-third : (s : Sheet) → identity s / 2 ^ 8 % 256 ≡ s.t
-id-third s = omega (arith, s.bytes)
+id_third : (s : Sheet) → identity s / 2 ^ 8 % 256 ≡ s.t
+id_third s = omega (arith, s.bytes)
 
-id-fourth : (s : Sheet) → identity s / 2 ^ 0 % 256 ≡ s.f
-id-fourth s = omega (arith, s.bytes)
+id_fourth : (s : Sheet) → identity s / 2 ^ 0 % 256 ≡ s.f
+id_fourth s = omega (arith, s.bytes)
 
 module _ (s : Sheet) (wp : Bool) (memory : List ℕ) (stored : ℕ) where
   pub identified : all_read bounded (selected bounded (rested s wp memory stored false)) (0x9F ∷ 0 ∷ 0 ∷ 0 ∷ 0 ∷ []) ≡ 0xFF ∷ 0x04 ∷ 0x7F ∷ s.t ∷ s.f ∷ []
   identified =
-      (bytes_taken s wp id-bytes id-small (awake memory stored false) bounded.begin refl refl).1
-      ∙ ap₂ (λ (a b : ℕ). 0xFF ∷ a ∷ b ∷ identity s / 2 ^ 8 % 256 ∷ identity s / 2 ^ 0 % 256 ∷ []) (id-first s) (id-second s)
-      ∙ ap₂ (λ (a b : ℕ). 0xFF ∷ 0x04 ∷ 0x7F ∷ a ∷ b ∷ []) (id-third s) (id-fourth s)
+      (bytes_taken s wp id_bytes id_small (awake memory stored false) bounded.begin refl refl).1
+      ∙ ap₂ (λ (a b : ℕ). 0xFF ∷ a ∷ b ∷ identity s / 2 ^ 8 % 256 ∷ identity s / 2 ^ 0 % 256 ∷ []) (id_first s) (id_second s)
+      ∙ ap₂ (λ (a b : ℕ). 0xFF ∷ 0x04 ∷ 0x7F ∷ a ∷ b ∷ []) (id_third s) (id_fourth s)
 
   pub identified_left : deselected bounded (sent (rested s wp memory stored false) (0x9F ∷ 0 ∷ 0 ∷ 0 ∷ 0 ∷ [])) ≡ rested s wp memory stored false
   identified_left =
-      ap (deselected bounded) (bytes_taken s wp id-bytes id-small (awake memory stored false) bounded.begin refl refl).0
+      ap (deselected bounded) (bytes_taken s wp id_bytes id_small (awake memory stored false) bounded.begin refl refl).0
 
   pub status_read : all_read bounded (selected bounded (rested s wp memory stored false)) (0x05 ∷ 0 ∷ []) ≡ 0xFF ∷ stored % 256 ∷ []
   status_read =
-      (bytes_taken s wp (0x05 ∷ 0 ∷ []) status-small (awake memory stored false) bounded.begin refl refl).1
+      (bytes_taken s wp (0x05 ∷ 0 ∷ []) status_small (awake memory stored false) bounded.begin refl refl).1
       ∙ (let e : stored + 2 * bit false ≡ stored = omega arith in ap (λ (a : ℕ). 0xFF ∷ a % 256 ∷ []) e)
 
   pub status_left : deselected bounded (sent (rested s wp memory stored false) (0x05 ∷ 0 ∷ [])) ≡ rested s wp memory stored false
   status_left =
-      ap (deselected bounded) (bytes_taken s wp (0x05 ∷ 0 ∷ []) status-small (awake memory stored false) bounded.begin refl refl).0
+      ap (deselected bounded) (bytes_taken s wp (0x05 ∷ 0 ∷ []) status_small (awake memory stored false) bounded.begin refl refl).0
 
 -- ## Cells read
 
@@ -218,20 +218,20 @@ module _ (s : Sheet) (wp : Bool) (memory : List ℕ) (stored : ℕ) where
   abbrev at : Phase → ℕ → ℕ → Bus Registers
   at p a y = reading s wp memory stored false p (a % cells s) y
 
-  read-end : (p : Phase) (a y : ℕ) → deselected bounded (at p a y) ≡ rested s wp memory stored false
-  read-end Phase.first a y = refl
-  read-end Phase.second a y = refl
-  read-end Phase.later a y = refl
+  read_end : (p : Phase) (a y : ℕ) → deselected bounded (at p a y) ≡ rested s wp memory stored false
+  read_end Phase.first a y = refl
+  read_end Phase.second a y = refl
+  read_end Phase.later a y = refl
 
-  read-begun : (hi lo : ℕ) → hi < 256 → lo < 256 →
+  read_begun : (hi lo : ℕ) → hi < 256 → lo < 256 →
       sent (rested s wp memory stored false) (0x03 ∷ hi ∷ lo ∷ []) ≡ at Phase.first (256 * hi + lo) lo
-  read-begun hi lo h l =
+  read_begun hi lo h l =
       (bytes_taken s wp (0x03 ∷ hi ∷ lo ∷ []) (omega arith, (h, (l, tt))) (awake memory stored false) bounded.begin refl refl).0
       ∙ ap (λ (a : ℕ). reading s wp memory stored false Phase.first a lo) (address (cells s) hi lo)
 
   module _ (size : length memory ≡ cells s) (bytes : (i : ℕ) → slice_index memory i < 256) where
-    read-one : (p : Phase) (a y x : ℕ) → x < 256 → a < cells s → read bounded (at p a y) x ≡ slice_index memory a
-    read-one p a y x h l =
+    read_one : (p : Phase) (a y x : ℕ) → x < 256 → a < cells s → read bounded (at p a y) x ≡ slice_index memory a
+    read_one p a y x h l =
         reads_cell s wp memory stored false p (a % cells s) y x h ∙ mod-eq_of_lt (bytes (a % cells s)) ∙ ap (slice_index memory) (mod-eq_of_lt l)
 
     -- the cells from a on are read, and the chip is left as it was
@@ -240,39 +240,39 @@ module _ (s : Sheet) (wp : Bool) (memory : List ℕ) (stored : ℕ) where
         (all_read bounded b xs ≡ take (length xs) (drop a memory))
         × (deselected bounded (all_exchanged bounded b xs) ≡ rested s wp memory stored false)
 
-    reads-all : (xs : List ℕ) → Small xs → (p : Phase) (a y : ℕ) → a + length xs ≤ cells s → Reads a (at p a y) xs
-    reads-all [] h p a y l = (refl, read-end p a y)
-    reads-all (x ∷ xs) h p a y l =
+    reads_all : (xs : List ℕ) → Small xs → (p : Phase) (a y : ℕ) → a + length xs ≤ cells s → Reads a (at p a y) xs
+    reads_all [] h p a y l = (refl, read_end p a y)
+    reads_all (x ∷ xs) h p a y l =
         let g : a + suc (length xs) ≤ cells s = l in
         let lt : a < length memory = omega arith in
         let go : exchanged bounded (at p a y) x ≡ at (onward p) (suc a) x =
         reads_on s wp memory stored false p (a % cells s) y x h.0
         ∙ ap (λ (k : ℕ). reading s wp memory stored false (onward p) k x) (one_on (cells s) a) in
-        let rest = reads-all xs h.1 (onward p) (suc a) x (omega arith) in (
-          ap₂ (λ (v : ℕ) (vs : List ℕ). v ∷ vs) (read-one p a y x h.0 (omega arith))
+        let rest = reads_all xs h.1 (onward p) (suc a) x (omega arith) in (
+          ap₂ (λ (v : ℕ) (vs : List ℕ). v ∷ vs) (read_one p a y x h.0 (omega arith))
               (ap (λ (b : Bus Registers). all_read bounded b xs) go ∙ rest.0)
               ∙ sym (ap (take (suc (length xs))) (drop-cons memory a 0 lt)),
           ap (λ (b : Bus Registers). deselected bounded (all_exchanged bounded b xs)) go ∙ rest.1,
         )
 
-    cells-both : (hi lo : ℕ) (xs : List ℕ) → hi < 256 → lo < 256 → ((i : ℕ) → slice_index xs i < 256) → 256 * hi + lo + length xs ≤ cells s →
+    cells_both : (hi lo : ℕ) (xs : List ℕ) → hi < 256 → lo < 256 → ((i : ℕ) → slice_index xs i < 256) → 256 * hi + lo + length xs ≤ cells s →
         Reads (256 * hi + lo) (sent (rested s wp memory stored false) (0x03 ∷ hi ∷ lo ∷ [])) xs
-    cells-both hi lo xs h l k f =
-        subst (λ (b : Bus Registers). Reads (256 * hi + lo) b xs) (sym (read-begun hi lo h l))
-        (reads-all xs (small_of xs k) Phase.first (256 * hi + lo) lo f)
+    cells_both hi lo xs h l k f =
+        subst (λ (b : Bus Registers). Reads (256 * hi + lo) b xs) (sym (read_begun hi lo h l))
+        (reads_all xs (small_of xs k) Phase.first (256 * hi + lo) lo f)
 
     pub cells_read : (hi lo : ℕ) (xs : List ℕ) → hi < 256 → lo < 256 → ((i : ℕ) → slice_index xs i < 256) → 256 * hi + lo + length xs ≤ cells s →
         all_read bounded (sent (rested s wp memory stored false) (0x03 ∷ hi ∷ lo ∷ [])) xs ≡ take (length xs) (drop (256 * hi + lo) memory)
-    cells_read hi lo xs h l k f = (cells-both hi lo xs h l k f).0
+    cells_read hi lo xs h l k f = (cells_both hi lo xs h l k f).0
 
     pub cells_left : (hi lo : ℕ) (xs : List ℕ) → hi < 256 → lo < 256 → ((i : ℕ) → slice_index xs i < 256) → 256 * hi + lo + length xs ≤ cells s →
         deselected bounded (all_exchanged bounded (sent (rested s wp memory stored false) (0x03 ∷ hi ∷ lo ∷ [])) xs) ≡ rested s wp memory stored false
-    cells_left hi lo xs h l k f = (cells-both hi lo xs h l k f).1
+    cells_left hi lo xs h l k f = (cells_both hi lo xs h l k f).1
 
 -- ## Cells written
 
-fence-within : (s : Sheet) (r : Record) → first_protected s r ≤ cells s
-fence-within s r = grind arith
+fence_within : (s : Sheet) (r : Record) → first_protected s r ≤ cells s
+fence_within s r = grind arith
 
 -- a cell before the fence may be written
 may : (s : Sheet) (memory : List ℕ) (stored a : ℕ) → a < first_protected s (awake memory stored true) → may_write s (awake memory stored true) a ≡ true
@@ -282,16 +282,16 @@ may s memory stored a h = go (first_protected s (awake memory stored true)) h
     go n h = grind arith
 
 -- a byte put into a cell, and the rest behind it
-patched-first : (memory : List ℕ) (a x : ℕ) (xs : List ℕ) → a < length memory →
+patched_first : (memory : List ℕ) (a x : ℕ) (xs : List ℕ) → a < length memory →
     patched (slice_set memory a x) (suc a) xs ≡ patched memory a (x ∷ xs)
-patched-first memory a x xs h =
+patched_first memory a x xs h =
     let e : suc a + length xs ≡ a + suc (length xs) = omega arith in
     ap₂ (λ (front back : List ℕ). front ++ (xs ++ back)) (take-suc-set memory a x h) (drop-set-lt (suc a + length xs) memory a x (omega arith))
     ∙ append_assoc (take a memory) (x ∷ []) (xs ++ drop (suc a + length xs) memory)
     ∙ ap (λ (n : ℕ). take a memory ++ (x ∷ (xs ++ drop n memory))) e
 
-patched-none : (memory : List ℕ) (a : ℕ) → patched memory a [] ≡ memory
-patched-none memory a = ap (λ (n : ℕ). take a memory ++ drop n memory) (add-zero a) ∙ take-append-drop a memory
+patched_none : (memory : List ℕ) (a : ℕ) → patched memory a [] ≡ memory
+patched_none memory a = ap (λ (n : ℕ). take a memory ++ drop n memory) (add-zero a) ∙ take-append-drop a memory
 
 module _ (s : Sheet) (wp : Bool) (stored : ℕ) where
   abbrev end : List ℕ → Bool → Bus Registers
@@ -301,11 +301,11 @@ module _ (s : Sheet) (wp : Bool) (stored : ℕ) where
   dropped memory true = refl
   dropped memory false = refl
 
-  write-end : (memory : List ℕ) (p : Phase) (a y : ℕ) →
+  write_end : (memory : List ℕ) (p : Phase) (a y : ℕ) →
       deselected bounded (writing s wp memory stored p a y) ≡ rested s wp memory stored (not s.marks.drop)
-  write-end memory Phase.first a y = dropped memory s.marks.drop
-  write-end memory Phase.second a y = dropped memory s.marks.drop
-  write-end memory Phase.later a y = dropped memory s.marks.drop
+  write_end memory Phase.first a y = dropped memory s.marks.drop
+  write_end memory Phase.second a y = dropped memory s.marks.drop
+  write_end memory Phase.later a y = dropped memory s.marks.drop
 
   -- of the record it asks for the stored bits alone
   abbrev fence : ℕ
@@ -319,13 +319,13 @@ module _ (s : Sheet) (wp : Bool) (stored : ℕ) where
   Writes memory a b xs =
       deselected bounded (all_exchanged bounded b xs) ≡ rested s wp (patched memory a xs) stored (not s.marks.drop)
 
-  writes-all : (xs : List ℕ) → Small xs → (memory : List ℕ) → length memory ≡ cells s → (p : Phase) (a y : ℕ) → a + length xs ≤ fence →
+  writes_all : (xs : List ℕ) → Small xs → (memory : List ℕ) → length memory ≡ cells s → (p : Phase) (a y : ℕ) → a + length xs ≤ fence →
       Writes memory a (come memory p a y) xs
-  writes-all [] h memory size p a y l =
-      write-end memory p (a % cells s) y ∙ ap (λ (m : List ℕ). rested s wp m stored (not s.marks.drop)) (sym (patched-none memory a))
-  writes-all (x ∷ xs) h memory size p a y l =
+  writes_all [] h memory size p a y l =
+      write_end memory p (a % cells s) y ∙ ap (λ (m : List ℕ). rested s wp m stored (not s.marks.drop)) (sym (patched_none memory a))
+  writes_all (x ∷ xs) h memory size p a y l =
       let g : a + suc (length xs) ≤ fence = l in
-      let f = fence-within s (awake [] stored true) in
+      let f = fence_within s (awake [] stored true) in
       let e : a % cells s ≡ a = mod-eq_of_lt (omega arith) in
       let one : come memory p a y ≡ writing s wp memory stored p a y = ap (λ (k : ℕ). writing s wp memory stored p k y) e in
       let go : exchanged bounded (come memory p a y) x ≡ come (slice_set memory a x) (onward p) (suc a) x =
@@ -333,12 +333,12 @@ module _ (s : Sheet) (wp : Bool) (stored : ℕ) where
       ∙ writes_on s wp memory stored p a y x h.0 (may s memory stored a (omega arith))
       ∙ ap (λ (k : ℕ). writing s wp (slice_set memory a x) stored (onward p) (k % cells s) x) (omega arith) in
       ap (λ (b : Bus Registers). deselected bounded (all_exchanged bounded b xs)) go
-      ∙ writes-all xs h.1 (slice_set memory a x) (length-set memory a x ∙ size) (onward p) (suc a) x (omega arith)
-      ∙ ap (λ (m : List ℕ). rested s wp m stored (not s.marks.drop)) (patched-first memory a x xs (omega arith))
+      ∙ writes_all xs h.1 (slice_set memory a x) (length-set memory a x ∙ size) (onward p) (suc a) x (omega arith)
+      ∙ ap (λ (m : List ℕ). rested s wp m stored (not s.marks.drop)) (patched_first memory a x xs (omega arith))
 
-  write-begun : (memory : List ℕ) (hi lo : ℕ) → hi < 256 → lo < 256 →
+  write_begun : (memory : List ℕ) (hi lo : ℕ) → hi < 256 → lo < 256 →
       sent (rested s wp memory stored true) (0x02 ∷ hi ∷ lo ∷ []) ≡ come memory Phase.first (256 * hi + lo) lo
-  write-begun memory hi lo h l =
+  write_begun memory hi lo h l =
       (bytes_taken s wp (0x02 ∷ hi ∷ lo ∷ []) (omega arith, (h, (l, tt))) (awake memory stored true) bounded.begin refl refl).0
       ∙ ap (λ (a : ℕ). writing s wp memory stored Phase.first a lo) (address (cells s) hi lo)
 
@@ -349,5 +349,5 @@ module _ (s : Sheet) (wp : Bool) (memory : List ℕ) (stored : ℕ) (size : leng
       deselected bounded (all_exchanged bounded (sent (rested s wp memory stored true) (0x02 ∷ hi ∷ lo ∷ [])) xs)
       ≡ rested s wp (patched memory (256 * hi + lo) xs) stored (not s.marks.drop)
   cells_written hi lo xs h l k f =
-      ap (λ (b : Bus Registers). deselected bounded (all_exchanged bounded b xs)) (write-begun s wp stored memory hi lo h l)
-      ∙ writes-all s wp stored xs (small_of xs k) memory size Phase.first (256 * hi + lo) lo f
+      ap (λ (b : Bus Registers). deselected bounded (all_exchanged bounded b xs)) (write_begun s wp stored memory hi lo h l)
+      ∙ writes_all s wp stored xs (small_of xs k) memory size Phase.first (256 * hi + lo) lo f

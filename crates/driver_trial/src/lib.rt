@@ -1,5 +1,5 @@
 // Trials of the driver: over the chip stepped by bytes and over lines, on a blank chip, on a chip that is not at rest, and the
-// samples that its calls put.
+// samples that its calls put. Tests alone.
 #![tactic(auto)]
 
 #[cfg(test)]

@@ -1,5 +1,6 @@
-// The C entry points: both script runs on numbers and byte buffers (include/fram.h). Each is total: whatever the numbers are,
-// and however long the buffers.
+// The C entry points: both script runs on numbers and byte buffers (include/fram.h).
+//
+// What it promises: that of the reports. Each function is total: whatever the numbers are, and however long the buffers.
 #![tactic(auto)]
 
 ghost use Rattle.reports.specs.Marks.{marks_by};

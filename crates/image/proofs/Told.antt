@@ -10,29 +10,29 @@ use Rattle.image.specs.Laws.{ToldApart}
 abbrev none : Cell
 none = free 0
 
-part-one : (i : Image) (k : ℕ) → k < length i → part i k 1 ≡ get_or i k none ∷ []
-part-one i k h = rw (drop_more i k none)
+part_one : (i : Image) (k : ℕ) → k < length i → part i k 1 ≡ get_or i k none ∷ []
+part_one i k h = rw (drop_more i k none)
 
 inside_one : (i : Image) (k : ℕ) → k < length i → inside i k 1 ≡ true
 inside_one i k h = le-leb (k + 1) (length i) (omega arith)
 
 read_one : (i : Image) (k : ℕ) → k < length i → answer i (read k 1) ≡ bytes ((get_or i k none).byte ∷ [])
-read_one i k h = rw (inside_one i k h, part-one i k h)
+read_one i k h = rw (inside_one i k h, part_one i k h)
 
-fence-one : (i : Image) (k : ℕ) → k < length i → answer i (fence k 1) ≡ place (cond (get_or i k none).fenced (Some k) None)
-fence-one i k h = rw (inside_one i k h, part-one i k h)
+fence_one : (i : Image) (k : ℕ) → k < length i → answer i (fence k 1) ≡ place (cond (get_or i k none).fenced (Some k) None)
+fence_one i k h = rw (inside_one i k h, part_one i k h)
 
-same-fence : (k : ℕ) (a b : Bool) → place (cond a (Some k) None) ≡ place (cond b (Some k) None) → a ≡ b
-same-fence k true true e = refl
-same-fence k false false e = refl
-same-fence k true false e = cc
-same-fence k false true e = cc
+same_fence : (k : ℕ) (a b : Bool) → place (cond a (Some k) None) ≡ place (cond b (Some k) None) → a ≡ b
+same_fence k true true e = refl
+same_fence k false false e = refl
+same_fence k true false e = cc
+same_fence k false true e = cc
 
-pub same-cell : (a b : Cell) → a.byte ≡ b.byte → a.fenced ≡ b.fenced → a ≡ b
-same-cell a b e f i = record { byte = e i; fenced = f i }
+pub same_cell : (a b : Cell) → a.byte ≡ b.byte → a.fenced ≡ b.fenced → a ≡ b
+same_cell a b e f i = record { byte = e i; fenced = f i }
 
-pub told-apart : ToldApart
-told-apart i j = (
+pub told_apart : ToldApart
+told_apart i j = (
   λ e calls. ap (λ k. answers k calls) e,
   λ same.
       let long : length i ≡ length j = let h = same (size ∷ []) in cc in
@@ -41,6 +41,6 @@ told-apart i j = (
       let r : ◌≡◌ {A = Answer} (bytes ((get_or i k none).byte ∷ [])) (bytes ((get_or j k none).byte ∷ [])) =
       let s = same (read k 1 ∷ []) in cc (read_one i k h, read_one j k g) in
       let f : place (cond (get_or i k none).fenced (Some k) None) ≡ place (cond (get_or j k none).fenced (Some k) None) =
-      let s = same (fence k 1 ∷ []) in cc (fence-one i k h, fence-one j k g) in
-      same-cell (get_or i k none) (get_or j k none) (cc) (same-fence k (get_or i k none).fenced (get_or j k none).fenced f)),
+      let s = same (fence k 1 ∷ []) in cc (fence_one i k h, fence_one j k g) in
+      same_cell (get_or i k none) (get_or j k none) (cc) (same_fence k (get_or i k none).fenced (get_or j k none).fenced f)),
 )

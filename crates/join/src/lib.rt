@@ -1,4 +1,7 @@
 // A join: two boards, one after the other, as a board.
+//
+// What it promises: that of a board, for the cells of both, cut at 1,048,576; a write puts all its bytes or none; and what both
+// boards are at exit.
 #![tactic(auto)]
 
 ghost use Rattle.std.specs.Prelude.{◌≡◌, ◌≤◌, length};

@@ -19,8 +19,8 @@ use Rattle.datasheet.specs.Calls.{Chip, Call, Call.sample, Answer, shows, answer
 use Rattle.datasheet.specs.Mode0.{clocks, session, bit_read, read_at_rises}
 use Rattle.datasheet.specs.Kept.{bounded}
 use Rattle.laws.specs.Laws.{Alike, ToldApart}
-use Rattle.laws.proofs.Bits.{number-bits_of}
-use Rattle.laws.proofs.Simulation.{command-kept}
+use Rattle.laws.proofs.Bits.{number_bits_of}
+use Rattle.laws.proofs.Simulation.{command_kept}
 use Rattle.laws.proofs.Follow.{enough}
 use Rattle.laws.proofs.Stays.{Good, good}
 
@@ -35,19 +35,19 @@ abbrev Quiet : Sheet → Record → List Bool → List Bool → Type 0
 Quiet s r bits [] = Unit {0}
 Quiet s r bits (b ∷ bs) = (after_rise s true r (bits ++ b ∷ []) ≡ r) × Quiet s r (bits ++ b ∷ []) bs
 
-quiet-late : (s : Sheet) (r : Record) (bits bs : List Bool) → 8 ≤ length bits → Reads s (command s bits) → Quiet s r bits bs
-quiet-late s r bits [] h k = tt
-quiet-late s r bits (b ∷ bs) h k =
+quiet_late : (s : Sheet) (r : Record) (bits bs : List Bool) → 8 ≤ length bits → Reads s (command s bits) → Quiet s r bits bs
+quiet_late s r bits [] h k = tt
+quiet_late s r bits (b ∷ bs) h k =
     let bits' = bits ++ b ∷ [] in
-    let k' = subst (Reads s) (sym (command-kept s bits b h)) k in (
+    let k' = subst (Reads s) (sym (command_kept s bits b h)) k in (
       k' true r (length bits') (cell_at s 32 bits') (byte_after (length bits' - 8) bits'),
-      quiet-late s r bits' bs (simp length_push (omega arith)) k',
+      quiet_late s r bits' bs (simp length_push (omega arith)) k',
     )
 
 quiet : (s : Sheet) (r : Record) (code : ℕ) (bs : List Bool) →
     Reads s (command s (bits_of 8 code)) → Quiet s r [] (bits_of 8 code ++ bs)
 quiet s r code bs k =
-    (refl, (refl, (refl, (refl, (refl, (refl, (refl, (k true r 8 _ _, quiet-late s r (bits_of 8 code) bs (omega arith) k))))))))
+    (refl, (refl, (refl, (refl, (refl, (refl, (refl, (k true r 8 _ _, quiet_late s r (bits_of 8 code) bs (omega arith) k))))))))
 
 -- what is read at the rises of such bits, from a chip that is awake
 abbrev reading : Sheet → Record → List Bool → Level → List Bool → List Bool
@@ -76,9 +76,9 @@ module _ (s : Sheet) (r : Record) where
       ap (λ (xs : List Answer). read_at_rises (a ∷ xs)) (clocked bits l b (clocks bs) q.0)
       ∙ ap (λ (xs : List Bool). bit_read (shows l) ∷ xs) (hears (shows l') bits' l' bs q.1)
 
-bit-read : (t : Bool) → bit_read (shows (driven t)) ≡ t
-bit-read true = refl
-bit-read false = refl
+bit_is_read : (t : Bool) → bit_read (shows (driven t)) ≡ t
+bit_is_read true = refl
+bit_is_read false = refl
 
 -- RDSR reads the status, and READ with the sixteen address bits of i reads a cell
 abbrev rdsr : List Bool
@@ -87,13 +87,13 @@ rdsr = bits_of 8 5 ++ bits_of 8 0
 abbrev read : ℕ → List Bool
 read i = bits_of 8 3 ++ (bits_of 16 i ++ bits_of 8 0)
 
-reading-status : (s : Sheet) (r : Record) → take 8 (drop 8 (reading s r [] HighZ rdsr)) ≡ bits_of 8 (status r)
-reading-status s r = simp bit-read
+reading_status : (s : Sheet) (r : Record) → take 8 (drop 8 (reading s r [] HighZ rdsr)) ≡ bits_of 8 (status r)
+reading_status s r = simp bit_is_read
 
-reading-cell : (s : Sheet) (r : Record) (i : ℕ) →
+reading_cell : (s : Sheet) (r : Record) (i : ℕ) →
     take 8 (drop 24 (reading s r [] HighZ (read i)))
     ≡ bits_of 8 (get_or r.memory ((number (bits_of 16 i) % cells s + 0) % cells s) 0)
-reading-cell s r i = simp bit-read
+reading_cell s r i = simp bit_is_read
 
 -- ## What three lists of calls tell
 
@@ -113,60 +113,60 @@ module _ (s : Sheet) (r : Record) (f : Good s r) where
       take 8 (drop i (reading s (waking r) [] HighZ bs)) ≡ bits_of 8 v → v < 256 →
       seen i (answers whole (resting s (waking r)) (session bs)) ≡ v
   sees i v bs q e h =
-      ap (byte_after i) (hears s r (shows HighZ) [] HighZ bs q) ∙ ap number e ∙ number-bits_of 8 v ∙ mod-eq_of_lt h
+      ap (byte_after i) (hears s r (shows HighZ) [] HighZ bs q) ∙ ap number e ∙ number_bits_of 8 v ∙ mod-eq_of_lt h
 
   woken : (xs : List Call) → drop 2 (answers whole (resting s r) (wake xs)) ≡ answers whole (resting s (waking r)) xs
   woken xs =
       let w : cond r.asleep (waking r) r ≡ waking r = grind arith in
       ap (λ (q : Record). answers whole (resting s q) xs) w
 
-  status-seen : seen 8 (answers whole (resting s (waking r)) (session rdsr)) ≡ status r
-  status-seen =
+  status_seen : seen 8 (answers whole (resting s (waking r)) (session rdsr)) ≡ status r
+  status_seen =
       sees 8 (status r) rdsr (quiet s (waking r) 5 (bits_of 8 0) (λ wp q n a x. refl))
-      (reading-status s (waking r)) (grind arith)
+      (reading_status s (waking r)) (grind arith)
 
   -- in a sleeping chip SO stays high-Z and reads as 1
-  asleep-seen : (a : Bool) →
+  asleep_seen : (a : Bool) →
       let q : Record = record { memory = r.memory; stored = r.stored; latch = r.latch; asleep = a } in
       eqb (seen 8 (answers whole (resting s q) (session rdsr))) 255 ≡ a
-  asleep-seen true = refl
-  asleep-seen false = rw status-seen (grind arith)
+  asleep_seen true = refl
+  asleep_seen false = rw status_seen (grind arith)
 
   place_is : (i : ℕ) → i < cells s → (number (bits_of 16 i) % cells s + 0) % cells s ≡ i
   place_is i l =
       let b : cells s < 2 ^ 16 = pow_below (10 + s.t % 32) 16 (omega (arith, s.known)) in
-      rw (number-bits_of 16 i, mod-eq_of_lt (lt_trans l b), add-zero (i % cells s), mod-mod i (cells s)) (mod-eq_of_lt l)
+      rw (number_bits_of 16 i, mod-eq_of_lt (lt_trans l b), add-zero (i % cells s), mod-mod i (cells s)) (mod-eq_of_lt l)
 
-  cell-seen : (i : ℕ) → i < cells s → seen 24 (answers whole (resting s (waking r)) (session (read i))) ≡ get_or r.memory i 0
-  cell-seen i l =
+  cell_seen : (i : ℕ) → i < cells s → seen 24 (answers whole (resting s (waking r)) (session (read i))) ≡ get_or r.memory i 0
+  cell_seen i l =
       sees 24 (get_or r.memory i 0) (read i) (quiet s (waking r) 3 (bits_of 16 i ++ bits_of 8 0) (λ wp q n a x. refl))
-      (reading-cell s (waking r) i ∙ ap (λ (j : ℕ). bits_of 8 (get_or r.memory j 0)) (place_is i l)) (f.bytes i)
+      (reading_cell s (waking r) i ∙ ap (λ (j : ℕ). bits_of 8 (get_or r.memory j 0)) (place_is i l)) (f.bytes i)
 
 -- ## The law
 
 module _ (s : Sheet) (r q : Record) (f : Good s r) (g : Good s q) (h : Alike whole (resting s r) (resting s q)) where
-  awake-alike : Alike whole (resting s (waking r)) (resting s (waking q))
-  awake-alike xs = sym (woken s r f xs) ∙ ap (drop 2) (h (wake xs)) ∙ woken s q g xs
+  awake_alike : Alike whole (resting s (waking r)) (resting s (waking q))
+  awake_alike xs = sym (woken s r f xs) ∙ ap (drop 2) (h (wake xs)) ∙ woken s q g xs
 
-  same-asleep : r.asleep ≡ q.asleep
-  same-asleep =
-      sym (asleep-seen s r f r.asleep)
+  same_asleep : r.asleep ≡ q.asleep
+  same_asleep =
+      sym (asleep_seen s r f r.asleep)
       ∙ ap (λ (xs : List Answer). eqb (seen 8 xs) 255) (h (session rdsr))
-      ∙ asleep-seen s q g q.asleep
+      ∙ asleep_seen s q g q.asleep
 
-  same-status : status r ≡ status q
-  same-status = sym (status-seen s r f) ∙ ap (seen 8) (awake-alike (session rdsr)) ∙ status-seen s q g
+  same_status : status r ≡ status q
+  same_status = sym (status_seen s r f) ∙ ap (seen 8) (awake_alike (session rdsr)) ∙ status_seen s q g
 
   same_memory : r.memory ≡ q.memory
   same_memory =
       ext_get_or 0 r.memory q.memory (f.size ∙ sym g.size)
       (λ i l. let k : i < cells s = rw f.size at l in
-      sym (cell-seen s r f i k) ∙ ap (seen 24) (awake-alike (session (read i))) ∙ cell-seen s q g i k)
+      sym (cell_seen s r f i k) ∙ ap (seen 24) (awake_alike (session (read i))) ∙ cell_seen s q g i k)
 
   same : r ≡ q
   same =
-      let a = same-asleep in
-      let b = same-status in
+      let a = same_asleep in
+      let b = same_status in
       let c = same_memory in
       grind arith
 
@@ -186,10 +186,10 @@ module _ (K : Keeping)
         λ h. told s c.rec d.rec (good c f) (rw e (good d g)) (rw (x, y) at h),
       )
 
-pub told-apart-whole : ToldApart whole
-told-apart-whole = apart whole same
+pub told_apart_whole : ToldApart whole
+told_apart_whole = apart whole same
 
-pub told-apart : ToldApart bounded
-told-apart =
+pub told_apart : ToldApart bounded
+told_apart =
     apart bounded
     (λ s r q f g h. same s r q f g (λ calls. sym (enough (resting s r) calls).0 ∙ h calls ∙ (enough (resting s q) calls).0))

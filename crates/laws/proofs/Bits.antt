@@ -25,8 +25,8 @@ number_lt (b ∷ bs) = go b (number_lt bs)
     go true h = omega arith
     go false h = omega arith
 
-pub byte_after-lt : (i : ℕ) (bits : List Bool) → byte_after i bits < 256
-byte_after-lt i bits =
+pub byte_after_lt : (i : ℕ) (bits : List Bool) → byte_after i bits < 256
+byte_after_lt i bits =
     let h : length (take 8 (drop i bits)) ≤ 8 = simp length-take (omega arith) in
     lt_of_lt_of_le (number_lt (take 8 (drop i bits))) (pow_mono h)
 
@@ -50,17 +50,17 @@ last_byte bits = go (cases_lt (length bits) 8)
         rw (take_all 8 back (omega arith), e) (sym (mod_low (number front) 8 (number back) l))
 
 -- the bits of a number
-bit-mod : (y : ℕ) → bit (eqb (y % 2) 1) ≡ y % 2
-bit-mod y = grind arith
+bit_mod : (y : ℕ) → bit (eqb (y % 2) 1) ≡ y % 2
+bit_mod y = grind arith
 
-pub length-bits_of : (k x : ℕ) → length (bits_of k x) ≡ k
-length-bits_of zero x = refl
-length-bits_of (suc k) x = ap suc (length-bits_of k x)
+pub length_bits_of : (k x : ℕ) → length (bits_of k x) ≡ k
+length_bits_of zero x = refl
+length_bits_of (suc k) x = ap suc (length_bits_of k x)
 
-pub number-bits_of : (k x : ℕ) → number (bits_of k x) ≡ x % 2 ^ k
-number-bits_of zero x = sym (mod-one x)
-number-bits_of (suc k) x =
-    rw (length-bits_of k x, bit-mod (x / 2 ^ k), number-bits_of k x, ← one-add k) (sym (mod-pow-add x 1 k))
+pub number_bits_of : (k x : ℕ) → number (bits_of k x) ≡ x % 2 ^ k
+number_bits_of zero x = sym (mod-one x)
+number_bits_of (suc k) x =
+    rw (length_bits_of k x, bit_mod (x / 2 ^ k), number_bits_of k x, ← one-add k) (sym (mod-pow-add x 1 k))
 
 -- the window of k bits behind the first j, of a list that grows by one bit
 module _ (j k : ℕ) (bits : List Bool) (b : Bool) where
@@ -70,7 +70,7 @@ module _ (j k : ℕ) (bits : List Bool) (b : Bool) where
       rw (drop-append-le j bits (b ∷ []) g, take_all k (drop j bits) (omega arith))
       (take_all k (drop j bits ++ b ∷ []) (simp length_push (omega arith)))
 
-  pub window-kept : j + k ≤ length bits → take k (drop j (bits ++ b ∷ [])) ≡ take k (drop j bits)
-  window-kept h =
+  pub window_kept : j + k ≤ length bits → take k (drop j (bits ++ b ∷ [])) ≡ take k (drop j bits)
+  window_kept h =
       rw (drop-append-le j bits (b ∷ []) (omega arith))
       (take-append-le k (drop j bits) (b ∷ []) (simp length-drop (omega arith)))

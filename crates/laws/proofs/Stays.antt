@@ -15,7 +15,7 @@ use Rattle.datasheet.specs.Chips.{Keeping, Pins, deselected, selected, whole, ju
 use Rattle.datasheet.specs.Calls.{Chip, Call, Call.sample, cycle, after}
 use Rattle.datasheet.specs.Kept.{bounded, taken}
 use Rattle.laws.specs.Laws.{Fitted, StaysFitted}
-use Rattle.laws.proofs.Bits.{byte_after-lt}
+use Rattle.laws.proofs.Bits.{byte_after_lt}
 
 -- the record of a fitted chip of this sheet
 abbrev pub Good : Sheet → Record → Type 0
@@ -25,24 +25,24 @@ pub good : {S : Type 0} (c : Chip S) → Fitted c → Good c.sheet c.rec
 good c f = grind arith
 
 -- a byte put into a cell, and the rules
-pub cell-byte : (m : List ℕ) (a x i : ℕ) → x < 256 → ((j : ℕ) → get_or m j 0 < 256) → get_or (set m a x) i 0 < 256
-cell-byte m a x i h f = let g = f i in grind (arith, get_or-set_same, get_or-set_other, get_or_past, length-set)
+pub cell_byte : (m : List ℕ) (a x i : ℕ) → x < 256 → ((j : ℕ) → get_or m j 0 < 256) → get_or (set m a x) i 0 < 256
+cell_byte m a x i h f = let g = f i in grind (arith, get_or-set_same, get_or-set_other, get_or_past, length-set)
 
-effect-good : (s : Sheet) (c : Option Command) (wp : Bool) (r : Record) (n a x : ℕ) →
+effect_good : (s : Sheet) (c : Option Command) (wp : Bool) (r : Record) (n a x : ℕ) →
     x < 256 → r.asleep ≡ false → Good s r → Good s (effect s c wp r n a x)
-effect-good s c wp r n a x h e f = let k = λ (i : ℕ). cell-byte r.memory a x i h f.bytes in grind (arith, length-set)
+effect_good s c wp r n a x h e f = let k = λ (i : ℕ). cell_byte r.memory a x i h f.bytes in grind (arith, length-set)
 
-ended-good : (s : Sheet) (c : Option Command) (r : Record) (n : ℕ) → Good s r → Good s (ended s c r n)
-ended-good s c r n f = grind arith
+ended_good : (s : Sheet) (c : Option Command) (r : Record) (n : ℕ) → Good s r → Good s (ended s c r n)
+ended_good s c r n f = grind arith
 
 -- a chip stays fitted if what is kept of a session does to its record only what a fitted chip can do
 module _ (K : Keeping)
     (rises-good : (s : Sheet) (wp : Bool) (r : Record) (k : K.Session) (b : Bool) →
     r.asleep ≡ false → Good s r → Good s (K.rises s wp r k b))
     (ends-good : (s : Sheet) (r : Record) (k : K.Session) → Good s r → Good s (K.ends s r k)) where
-  judged-good : (s : Sheet) (r : Record) (p : Pins K.Session) (x : Sample) → Good s r → Good s (judged K s r p x).rec
-  judged-good s r deselected x f = grind arith
-  judged-good s r (selected sck hold k l) x f =
+  judged_good : (s : Sheet) (r : Record) (p : Pins K.Session) (x : Sample) → Good s r → Good s (judged K s r p x).rec
+  judged_good s r deselected x f = grind arith
+  judged_good s r (selected sck hold k l) x f =
       let rises : r.asleep ≡ false → Good s (K.rises s x.wp r k x.si) = λ e. rises-good s x.wp r k x.si e f in
       let ends = ends-good s r k f in
       grind arith
@@ -50,30 +50,30 @@ module _ (K : Keeping)
   abbrev Stays : Chip K.Session → Chip K.Session → Type 0
   Stays c d = Fitted d × (d.sheet ≡ c.sheet)
 
-  after-stays : (c : Chip K.Session) (x : Call) → Fitted c → Stays c (after K c x)
-  after-stays c (sample byte) f =
-      let h = judged-good c.sheet c.rec c.pins (levels byte) (good c f) in
+  after_stays : (c : Chip K.Session) (x : Call) → Fitted c → Stays c (after K c x)
+  after_stays c (sample byte) f =
+      let h = judged_good c.sheet c.rec c.pins (levels byte) (good c f) in
       grind arith
-  after-stays c cycle f = grind arith
+  after_stays c cycle f = grind arith
 
-  run-stays : StaysFitted K
-  run-stays c [] f = (f, refl)
-  run-stays c (x ∷ xs) f =
-      let g = after-stays c x f in
-      let h = run-stays (after K c x) xs g.0 in
+  run_stays : StaysFitted K
+  run_stays c [] f = (f, refl)
+  run_stays c (x ∷ xs) f =
+      let g = after_stays c x f in
+      let h = run_stays (after K c x) xs g.0 in
       (h.0, h.1 ∙ g.1)
 
-pub stays-fitted-whole : StaysFitted whole
-stays-fitted-whole =
-    run-stays whole
+pub stays_fitted_whole : StaysFitted whole
+stays_fitted_whole =
+    run_stays whole
     (λ s wp r bits b. let k = bits ++ b ∷ [] in
     let i = length k - 8 in
-    effect-good s (command s k) wp r (length k) (cell_at s 32 k) (byte_after i k) (byte_after-lt i k))
-    (λ s r bits. ended-good s (command s bits) r (length bits))
+    effect_good s (command s k) wp r (length k) (cell_at s 32 k) (byte_after i k) (byte_after_lt i k))
+    (λ s r bits. ended_good s (command s bits) r (length bits))
 
-pub stays-fitted : StaysFitted bounded
-stays-fitted =
-    run-stays bounded
+pub stays_fitted : StaysFitted bounded
+stays_fitted =
+    run_stays bounded
     (λ s wp r k b. let t = taken s k b in
-    effect-good s (command_at s t.count t.code) wp r t.count k.place t.shift (omega arith))
-    (λ s r k. ended-good s (command_at s k.count k.code) r k.count)
+    effect_good s (command_at s t.count t.code) wp r t.count k.place t.shift (omega arith))
+    (λ s r k. ended_good s (command_at s k.count k.code) r k.count)

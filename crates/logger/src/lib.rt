@@ -1,4 +1,6 @@
 // A logger: pins that log the samples which are put through them.
+//
+// What it promises: they are the same pins, and the buffer holds the samples, as far as it has room.
 #![tactic(auto)]
 
 ghost use Rattle.std.specs.Prelude.{◌≡◌, ◌≤◌, length, take};

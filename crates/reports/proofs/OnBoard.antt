@@ -17,7 +17,7 @@ use Rattle.image.specs.declared.Cell.{Cell}
 use Rattle.image.specs.Images.{Image, bytes_of, free, overwritten}
 use Rattle.image.specs.Results.{if_accepted, write_result, written}
 use Rattle.image.specs.Calls.{Call, size, fence, read, write, after, run, answers}
-use Rattle.image.proofs.Cells.{length-overwritten}
+use Rattle.image.proofs.Cells.{length_overwritten}
 use Rattle.driver.specs.Drives.{chip_image, image_of, fenced}
 use Rattle.driver.proofs.Cells.{image_length}
 use Rattle.script.specs.Steps.{board_kinds}
@@ -33,50 +33,50 @@ begins {s = s} {memory = memory} {stored = stored} e fit =
     ap (λ (c : Chip Registers). image_of (made bounded true c)) e ∙ ap (λ (f : Bool). cond f (shown_of s memory stored) []) fit
 
 -- no call changes the number of cells
-length-written : (i : Image) (start : ℕ) (bytes : List ℕ) → length (written i start bytes) ≡ length i
-length-written i start bytes = go (write_result i start bytes)
+length_written : (i : Image) (start : ℕ) (bytes : List ℕ) → length (written i start bytes) ≡ length i
+length_written i start bytes = go (write_result i start bytes)
   where
     go : (r : Result (Unit {0}) Refusal) → length (if_accepted r (overwritten i start bytes) i) ≡ length i
-    go (Ok u) = length-overwritten i start bytes
+    go (Ok u) = length_overwritten i start bytes
     go (Err e) = refl
 
-length-after : (i : Image) (c : Call) → length (after i c) ≡ length i
-length-after i size = refl
-length-after i (fence start count) = refl
-length-after i (read start count) = refl
-length-after i (write start bytes) = length-written i start bytes
+length_after : (i : Image) (c : Call) → length (after i c) ≡ length i
+length_after i size = refl
+length_after i (fence start count) = refl
+length_after i (read start count) = refl
+length_after i (write start bytes) = length_written i start bytes
 
-length-run : (i : Image) (calls : List Call) → length (run i calls) ≡ length i
-length-run i [] = refl
-length-run i (c ∷ calls) = length-run (after i c) calls ∙ length-after i c
+length_run : (i : Image) (calls : List Call) → length (run i calls) ≡ length i
+length_run i [] = refl
+length_run i (c ∷ calls) = length_run (after i c) calls ∙ length_after i c
 
-left-by : (i : Image) (buffer : List ℕ) (k : Reading Call) → length (outcome_of board_kinds run (λ j calls. all_board_bytes (answers j calls)) k i buffer).left ≡ length i
-left-by i buffer (stops e) = refl
-left-by i buffer (reads calls) = go (leb (9 * length calls) (length buffer))
+left_by : (i : Image) (buffer : List ℕ) (k : Reading Call) → length (outcome_of board_kinds run (λ j calls. all_board_bytes (answers j calls)) k i buffer).left ≡ length i
+left_by i buffer (stops e) = refl
+left_by i buffer (reads calls) = go (leb (9 * length calls) (length buffer))
   where
     go : (f : Bool) →
         length (cond f (playing board_kinds run (λ j calls. all_board_bytes (answers j calls)) i calls (all_board_bytes (answers i calls)) buffer) (refusing ShortBuffer i buffer)).left ≡ length i
-    go true = length-run i calls
+    go true = length_run i calls
     go false = refl
 
-length-left : (i : Image) (script buffer : List ℕ) → length (board_outcome i script buffer).left ≡ length i
-length-left i script buffer = left-by i buffer (read_script board_kinds script)
+length_left : (i : Image) (script buffer : List ℕ) → length (board_outcome i script buffer).left ≡ length i
+length_left i script buffer = left_by i buffer (read_script board_kinds script)
 
 -- the bytes of the cells of a chip are its memory
-marked-bytes : (f : ℕ → Cell) → ((b : ℕ) → (f b).byte ≡ b) → (xs : List ℕ) → bytes_of (map f xs) ≡ xs
-marked-bytes f h [] = refl
-marked-bytes f h (x ∷ xs) = ap₂ (λ (b : ℕ) (bs : List ℕ). b ∷ bs) (h x) (marked-bytes f h xs)
+marked_bytes : (f : ℕ → Cell) → ((b : ℕ) → (f b).byte ≡ b) → (xs : List ℕ) → bytes_of (map f xs) ≡ xs
+marked_bytes f h [] = refl
+marked_bytes f h (x ∷ xs) = ap₂ (λ (b : ℕ) (bs : List ℕ). b ∷ bs) (h x) (marked_bytes f h xs)
 
-chip-bytes : (s : Sheet) (r : Record) → bytes_of (chip_image s r) ≡ r.memory
-chip-bytes s r =
+chip_bytes : (s : Sheet) (r : Record) → bytes_of (chip_image s r) ≡ r.memory
+chip_bytes s r =
     let k = first_protected s r in
     map-append (λ (c : Cell). c.byte) (map free (take k r.memory)) (map fenced (drop k r.memory))
-    ∙ ap₂ (λ (xs ys : List ℕ). xs ++ ys) (marked-bytes free (λ b. refl) (take k r.memory)) (marked-bytes fenced (λ b. refl) (drop k r.memory))
+    ∙ ap₂ (λ (xs ys : List ℕ). xs ++ ys) (marked_bytes free (λ b. refl) (take k r.memory)) (marked_bytes fenced (λ b. refl) (drop k r.memory))
     ∙ take-append-drop k r.memory
 
-shown-bytes : (f : Bool) (s : Sheet) (r : Record) (left : Image) → cond f (chip_image s r) [] ≡ left → 0 < length left → r.memory ≡ bytes_of left
-shown-bytes true s r left e some = sym (chip-bytes s r) ∙ ap bytes_of e
-shown-bytes false s r left e some = absurd (omega (arith, ap length e))
+shown_bytes : (f : Bool) (s : Sheet) (r : Record) (left : Image) → cond f (chip_image s r) [] ≡ left → 0 < length left → r.memory ≡ bytes_of left
+shown_bytes true s r left e some = sym (chip_bytes s r) ∙ ap bytes_of e
+shown_bytes false s r left e some = absurd (omega (arith, ap length e))
 
 -- at the end
 pub ends : (c : Chip Registers) (s : Sheet) (memory : List ℕ) (stored : ℕ) (i : Image) (script buffer : List ℕ) → fits s memory ≡ true → i ≡ shown_of s memory stored →
@@ -85,5 +85,5 @@ ends c s memory stored i script buffer fit begun left =
     let cells_there = eqb-true (length memory) (cells s) fit in
     let some = pow_pos (10 + density_of s.t) in
     let long = image_length s (record { memory = memory; stored = stored; latch = false; asleep = false }) in
-    shown-bytes c.fitted c.sheet c.rec _ left (omega (arith, cells_there, some, long, ap length begun, length-left i script buffer))
+    shown_bytes c.fitted c.sheet c.rec _ left (omega (arith, cells_there, some, long, ap length begun, length_left i script buffer))
     ∙ ap (λ (j : Image). bytes_of (board_outcome j script buffer).left) begun

@@ -15,11 +15,11 @@ use script::{Counts, board_run};
 // Runs a script on the board that a driver makes of this bus.
 fn over_bus<B: Bus>(bus: &mut B, script: &[u8], answers: &mut [u8]) -> Result<Counts, Refusal>
     ensures result { result ≡ (board_outcome (image_of (B.Bus.meaning bus.old)) script.now answers.old).result }
-    ensures image { image_of (B.Bus.meaning bus.new) ≡ (board_outcome (image_of (B.Bus.meaning bus.old)) script.now answers.old).left }
+    ensures within { IfOk result (λ counts. counts.bytes ≤ length answers.old) }
     ensures answers { answers.new ≡ (board_outcome (image_of (B.Bus.meaning bus.old)) script.now answers.old).buffer }
+    ensures image { image_of (B.Bus.meaning bus.new) ≡ (board_outcome (image_of (B.Bus.meaning bus.old)) script.now answers.old).left }
     ensures stored { (B.Bus.meaning bus.new).rec.stored ≡ (B.Bus.meaning bus.old).rec.stored }
     ensures lent { B.Bus.lent bus.new ≡ B.Bus.lent bus.old }
-    ensures within { IfOk result (λ counts. counts.bytes ≤ length answers.old) }
 {
     let mut driver = Driver::new(bus);
     board_run(&mut driver, script, answers)
@@ -32,11 +32,11 @@ pub(super) fn over_chip<C: Steps>(
     answers: &mut [u8],
 ) -> Result<Counts, Refusal>
     ensures result { result ≡ (board_outcome (image_of (made bounded true (C.Pins.chip chip.old))) script.now answers.old).result }
-    ensures image { chip_shown (C.Pins.chip chip.new) ≡ (board_outcome (image_of (made bounded true (C.Pins.chip chip.old))) script.now answers.old).left }
+    ensures within { IfOk result (λ counts. counts.bytes ≤ length answers.old) }
     ensures answers { answers.new ≡ (board_outcome (image_of (made bounded true (C.Pins.chip chip.old))) script.now answers.old).buffer }
+    ensures image { chip_shown (C.Pins.chip chip.new) ≡ (board_outcome (image_of (made bounded true (C.Pins.chip chip.old))) script.now answers.old).left }
     ensures stored { (C.Pins.chip chip.new).rec.stored ≡ (made bounded true (C.Pins.chip chip.old)).rec.stored }
     ensures lent { C.Pins.lent chip.new ≡ C.Pins.lent chip.old }
-    ensures within { IfOk result (λ counts. counts.bytes ≤ length answers.old) }
 {
     let mut bus = ByteBus::new(chip, true);
     over_bus(&mut bus, script, answers)

@@ -1,5 +1,8 @@
 // Both script runs on numbers and byte buffers: a chip is powered over lent memory, a script is run on it or on the board that
 // a driver makes of it, and power is taken away again.
+//
+// What it promises: report, lent memory and answer buffer are one definition's value of what was passed; a refused run changes
+// nothing.
 #![tactic(auto)]
 
 ghost use Rattle.std.specs.Prelude.{◌≡◌, ◌≤◌, true, length, IfOk};
@@ -60,7 +63,7 @@ impl Report {
 
     // The report of a visit that ended, by the chip that was given back.
     fn of_visit(outcome: Result<Counts, Refusal>, parked: ParkedChip) -> Report
-        ensures report { result ≡ report_of outcome parked.stored.bits }
+        ensures { result ≡ report_of outcome parked.stored.bits }
     {
         let (_, stored) = parked.into_parts();
         Report::new(outcome, stored)
@@ -126,10 +129,10 @@ fn board_visit(
 ) -> (Result<Counts, Refusal>, ParkedChip)
     requires fits { fits parked.sheet memory.old ≡ true }
     ensures result { result.0 ≡ (board_outcome (shown_of parked.sheet memory.old parked.stored.bits) script.now answers.old).result }
-    ensures memory { memory.new ≡ bytes_of (board_outcome (shown_of parked.sheet memory.old parked.stored.bits) script.now answers.old).left }
-    ensures answers { answers.new ≡ (board_outcome (shown_of parked.sheet memory.old parked.stored.bits) script.now answers.old).buffer }
-    ensures stored { result.1.stored.bits ≡ parked.stored.bits }
     ensures within { IfOk result.0 (λ counts. counts.bytes ≤ length answers.old) }
+    ensures answers { answers.new ≡ (board_outcome (shown_of parked.sheet memory.old parked.stored.bits) script.now answers.old).buffer }
+    ensures memory { memory.new ≡ bytes_of (board_outcome (shown_of parked.sheet memory.old parked.stored.bits) script.now answers.old).left }
+    ensures stored { result.1.stored.bits ≡ parked.stored.bits }
 {
     let mut chip = parked.power(memory);
     let result = over_chip(&mut chip, script, answers);

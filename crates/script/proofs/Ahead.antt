@@ -11,60 +11,60 @@ abbrev pub row_ahead : {C : Type 0} → List C → Reading C → Reading C
 row_ahead [] k = k
 row_ahead (call ∷ calls) k = ahead call (row_ahead calls k)
 
-pub ahead-reads : {C : Type 0} (past calls : List C) → row_ahead past (reads calls) ≡ reads (past ++ calls)
-ahead-reads [] calls = refl
-ahead-reads (x ∷ past) calls = ap (ahead x) (ahead-reads past calls)
+pub ahead_reads : {C : Type 0} (past calls : List C) → row_ahead past (reads calls) ≡ reads (past ++ calls)
+ahead_reads [] calls = refl
+ahead_reads (x ∷ past) calls = ap (ahead x) (ahead_reads past calls)
 
-pub ahead-stops : {C : Type 0} (past : List C) (e : _) → row_ahead past (stops e) ≡ stops e
-ahead-stops [] e = refl
-ahead-stops (x ∷ past) e = ap (ahead x) (ahead-stops past e)
+pub ahead_stops : {C : Type 0} (past : List C) (e : _) → row_ahead past (stops e) ≡ stops e
+ahead_stops [] e = refl
+ahead_stops (x ∷ past) e = ap (ahead x) (ahead_stops past e)
 
-pub ahead-more : {C : Type 0} (past : List C) (call : C) (k : Reading C) → row_ahead (past ++ call ∷ []) k ≡ row_ahead past (ahead call k)
-ahead-more [] call k = refl
-ahead-more (x ∷ past) call k = ap (ahead x) (ahead-more past call k)
+pub ahead_more : {C : Type 0} (past : List C) (call : C) (k : Reading C) → row_ahead (past ++ call ∷ []) k ≡ row_ahead past (ahead call k)
+ahead_more [] call k = refl
+ahead_more (x ∷ past) call k = ap (ahead x) (ahead_more past call k)
 
 -- a script is shorter behind its first step
-shorter-by : {C : Type 0} (body : Option ℕ) (by : List ℕ → C) (script : List ℕ) (call : C) (rest : List ℕ) →
+shorter_by : {C : Type 0} (body : Option ℕ) (by : List ℕ → C) (script : List ℕ) (call : C) (rest : List ℕ) →
     step call rest ≡ step_of body by script → length rest < length script
-shorter-by None by script call rest e = grind arith
-shorter-by (Some n) by script call rest e = grind (arith, length-drop)
+shorter_by None by script call rest e = grind arith
+shorter_by (Some n) by script call rest e = grind (arith, length-drop)
 
 shorter : {C : Type 0} (kinds : Kinds C) (script : List ℕ) (call : C) (rest : List ℕ) → step call rest ≡ first kinds script → length rest < length script
-shorter kinds script = shorter-by (kinds.body (get_or script 0 0)) kinds.call script
+shorter kinds script = shorter_by (kinds.body (get_or script 0 0)) kinds.call script
 
 module _ {C : Type 0} (kinds : Kinds C) where
   -- the calls read before stand in front of what is read from here on
-  past-follow : (most : ℕ) (past : List C) (total place : ℕ) (p : First C) →
+  past_follow : (most : ℕ) (past : List C) (total place : ℕ) (p : First C) →
       ((calls : List C) (rest : List ℕ) → read_from kinds most calls total rest ≡ row_ahead calls (read_from kinds most [] total rest)) →
       follow p place (λ call rest. read_from kinds most (past ++ call ∷ []) total rest) ≡ row_ahead past (follow p place (λ call rest. read_from kinds most (call ∷ []) total rest))
-  past-follow most past total place (step call rest) h =
-      h (past ++ call ∷ []) rest ∙ ahead-more past call (read_from kinds most [] total rest) ∙ ap (row_ahead past) (sym (h (call ∷ []) rest))
-  past-follow most past total place unknown h = sym (ahead-stops past _)
-  past-follow most past total place short h = sym (ahead-stops past _)
+  past_follow most past total place (step call rest) h =
+      h (past ++ call ∷ []) rest ∙ ahead_more past call (read_from kinds most [] total rest) ∙ ap (row_ahead past) (sym (h (call ∷ []) rest))
+  past_follow most past total place unknown h = sym (ahead_stops past _)
+  past_follow most past total place short h = sym (ahead_stops past _)
 
-  pub past-first : (most : ℕ) (past : List C) (total : ℕ) (rest : List ℕ) → read_from kinds most past total rest ≡ row_ahead past (read_from kinds most [] total rest)
-  past-first zero past total rest = sym (ahead-reads past [] ∙ ap reads (append-nil past))
-  past-first (suc most) past total [] = sym (ahead-reads past [] ∙ ap reads (append-nil past))
-  past-first (suc most) past total (b ∷ rest) = past-follow most past total _ (first kinds (b ∷ rest)) (λ calls r. past-first most calls total r)
+  pub past_first : (most : ℕ) (past : List C) (total : ℕ) (rest : List ℕ) → read_from kinds most past total rest ≡ row_ahead past (read_from kinds most [] total rest)
+  past_first zero past total rest = sym (ahead_reads past [] ∙ ap reads (append-nil past))
+  past_first (suc most) past total [] = sym (ahead_reads past [] ∙ ap reads (append-nil past))
+  past_first (suc most) past total (b ∷ rest) = past_follow most past total _ (first kinds (b ∷ rest)) (λ calls r. past_first most calls total r)
 
   -- a bound above the number of bytes changes nothing
-  same-follow : (m n : ℕ) (past : List C) (total place : ℕ) (p : First C) →
+  same_follow : (m n : ℕ) (past : List C) (total place : ℕ) (p : First C) →
       ((call : C) (rest : List ℕ) → step call rest ≡ p → read_from kinds m (past ++ call ∷ []) total rest ≡ read_from kinds n (past ++ call ∷ []) total rest) →
       follow p place (λ call rest. read_from kinds m (past ++ call ∷ []) total rest) ≡ follow p place (λ call rest. read_from kinds n (past ++ call ∷ []) total rest)
-  same-follow m n past total place (step call rest) h = h call rest refl
-  same-follow m n past total place unknown h = refl
-  same-follow m n past total place short h = refl
+  same_follow m n past total place (step call rest) h = h call rest refl
+  same_follow m n past total place unknown h = refl
+  same_follow m n past total place short h = refl
 
-  same-bound : (m n : ℕ) (past : List C) (total : ℕ) (rest : List ℕ) → length rest ≤ m → length rest ≤ n → read_from kinds m past total rest ≡ read_from kinds n past total rest
-  same-bound zero zero past total [] h k = refl
-  same-bound zero (suc n) past total [] h k = refl
-  same-bound (suc m) zero past total [] h k = refl
-  same-bound (suc m) (suc n) past total [] h k = refl
-  same-bound zero n past total (b ∷ rest) h k = absurd (omega arith)
-  same-bound (suc m) zero past total (b ∷ rest) h k = absurd (omega arith)
-  same-bound (suc m) (suc n) past total (b ∷ rest) h k =
-      same-follow m n past total _ (first kinds (b ∷ rest))
-      (λ call r e. let l = shorter kinds (b ∷ rest) call r e in same-bound m n (past ++ call ∷ []) total r (omega (arith, l)) (omega (arith, l)))
+  same_bound : (m n : ℕ) (past : List C) (total : ℕ) (rest : List ℕ) → length rest ≤ m → length rest ≤ n → read_from kinds m past total rest ≡ read_from kinds n past total rest
+  same_bound zero zero past total [] h k = refl
+  same_bound zero (suc n) past total [] h k = refl
+  same_bound (suc m) zero past total [] h k = refl
+  same_bound (suc m) (suc n) past total [] h k = refl
+  same_bound zero n past total (b ∷ rest) h k = absurd (omega arith)
+  same_bound (suc m) zero past total (b ∷ rest) h k = absurd (omega arith)
+  same_bound (suc m) (suc n) past total (b ∷ rest) h k =
+      same_follow m n past total _ (first kinds (b ∷ rest))
+      (λ call r e. let l = shorter kinds (b ∷ rest) call r e in same_bound m n (past ++ call ∷ []) total r (omega (arith, l)) (omega (arith, l)))
 
   -- what the rest of a script of `total` bytes is read as
   abbrev pub rest_read : ℕ → List ℕ → Reading C
@@ -75,8 +75,8 @@ module _ {C : Type 0} (kinds : Kinds C) where
   step_ahead total [] rest call e = absurd (let l = shorter kinds [] call rest e in omega (arith, l))
   step_ahead total (b ∷ script) rest call e =
       sym (ap (λ (p : First C). follow p (total - length (b ∷ script)) (λ call rest. read_from kinds (length script) (call ∷ []) total rest)) e)
-      ∙ past-first (length script) (call ∷ []) total rest
-      ∙ ap (ahead call) (let l = shorter kinds (b ∷ script) call rest e in same-bound (length script) (length rest) [] total rest (omega (arith, l)) (omega arith))
+      ∙ past_first (length script) (call ∷ []) total rest
+      ∙ ap (ahead call) (let l = shorter kinds (b ∷ script) call rest e in same_bound (length script) (length rest) [] total rest (omega (arith, l)) (omega arith))
 
   -- where none stands there, the reading stops
   pub unknown_first : (total : ℕ) (script : List ℕ) → unknown ≡ first kinds script → 1 ≤ length script → rest_read total script ≡ stops (UnknownKind (total - length script))

@@ -8,13 +8,13 @@ use Rattle.script.specs.Steps.{Kinds, step, first}
 use Rattle.script.specs.Reading.{Reading, reads, stops, read_script}
 use Rattle.script.specs.Views.{ahead}
 use Rattle.script.specs.Laws.{row, IsStep, AreSteps, UnknownAt, ShortAt, ReadsExactly}
-use Rattle.script.proofs.Ahead.{rest_read, row_ahead, ahead-reads, ahead-stops, step_ahead, unknown_first, short_first}
+use Rattle.script.proofs.Ahead.{rest_read, row_ahead, ahead_reads, ahead_stops, step_ahead, unknown_first, short_first}
 use Rattle.script.proofs.Found.{whole_step, unknown_kind, short_step}
 
 module _ {C : Type 0} (kinds : Kinds C) where
   -- what a whole step in front is read as
-  first-step : (s rest : List ℕ) → IsStep kinds s → step (kinds.call s) rest ≡ first kinds (s ++ rest)
-  first-step s rest (body, knows, long) =
+  first_step : (s rest : List ℕ) → IsStep kinds s → step (kinds.call s) rest ≡ first kinds (s ++ rest)
+  first_step s rest (body, knows, long) =
       whole_step kinds body (s ++ rest) rest (kinds.call s)
       (ap kinds.body (get_or_append_left s rest 0 0 (omega (arith, long))) ∙ knows)
       (omega (arith, long, length-append s rest))
@@ -27,7 +27,7 @@ module _ {C : Type 0} (kinds : Kinds C) where
   row_read total [] rest are = refl
   row_read total (s ∷ steps) rest (is, are) =
       ap (rest_read kinds total) (append_assoc s (row steps) rest)
-      ∙ step_ahead kinds total (s ++ (row steps ++ rest)) (row steps ++ rest) (kinds.call s) (first-step s (row steps ++ rest) is)
+      ∙ step_ahead kinds total (s ++ (row steps ++ rest)) (row steps ++ rest) (kinds.call s) (first_step s (row steps ++ rest) is)
       ∙ ap (ahead (kinds.call s)) (row_read total steps rest are)
 
   read_behind : (all rest : List ℕ) (steps : List (List ℕ)) → AreSteps kinds steps → all ≡ row steps ++ rest →
@@ -37,7 +37,7 @@ module _ {C : Type 0} (kinds : Kinds C) where
   -- a fault behind whole steps stops the reading
   fault_read : (all rest : List ℕ) (steps : List (List ℕ)) (e : Refusal) → AreSteps kinds steps → rest_read kinds (length all) rest ≡ stops e → all ≡ row steps ++ rest →
       read_script kinds all ≡ stops e
-  fault_read all rest steps e are is at = read_behind all rest steps are at ∙ ap (row_ahead (map kinds.call steps)) is ∙ ahead-stops (map kinds.call steps) e
+  fault_read all rest steps e are is at = read_behind all rest steps are at ∙ ap (row_ahead (map kinds.call steps)) is ∙ ahead_stops (map kinds.call steps) e
 
   place_is : (all rest : List ℕ) (steps : List (List ℕ)) (place : ℕ) → all ≡ row steps ++ rest → place ≡ length (row steps) → length all - length rest ≡ place
   place_is all rest steps place e at = omega (arith, ap length e, length-append (row steps) rest)
@@ -60,7 +60,7 @@ module _ {C : Type 0} (kinds : Kinds C) where
   -- what it is decides how it is read
   is_read : {script : List ℕ} {r : Reading C} → Is script r → read_script kinds script ≡ r
   is_read {script} (whole steps are e) =
-      read_behind script [] steps are (e ∙ sym (append-nil (row steps))) ∙ ahead-reads (map kinds.call steps) [] ∙ ap reads (append-nil (map kinds.call steps))
+      read_behind script [] steps are (e ∙ sym (append-nil (row steps))) ∙ ahead_reads (map kinds.call steps) [] ∙ ap reads (append-nil (map kinds.call steps))
   is_read {script} (odd {place} (steps, kind, rest, are, e, at, knows)) =
       fault_read script (kind ∷ rest) steps (UnknownKind place) are
       (unknown_first kinds (length script) (kind ∷ rest) (unknown_kind kinds (kind ∷ rest) knows) (omega arith)
@@ -87,11 +87,11 @@ module _ {C : Type 0} (kinds : Kinds C) where
   Known script = (r : Reading C) × Is script r
 
   -- a step more, if the script has it whole
-  with-body : {script : List ℕ} (past : List (List ℕ)) (kind : ℕ) (rest : List ℕ) → AreSteps kinds past → script ≡ row past ++ kind ∷ rest →
+  with_body : {script : List ℕ} (past : List (List ℕ)) (kind : ℕ) (rest : List ℕ) → AreSteps kinds past → script ≡ row past ++ kind ∷ rest →
       (body : ℕ) → kinds.body kind ≡ Some body → (long : Bool) → leb (1 + body) (length (kind ∷ rest)) ≡ long →
       ((past' : List (List ℕ)) (rest' : List ℕ) → AreSteps kinds past' → script ≡ row past' ++ rest' → length rest' ≤ length rest → Known script) → Known script
-  with-body past kind rest are e body knows false few on = (_, cut (past, kind, rest, body, are, e, refl, knows, grind arith))
-  with-body past kind rest are e body knows true long on =
+  with_body past kind rest are e body knows false few on = (_, cut (past, kind, rest, body, are, e, refl, knows, grind arith))
+  with_body past kind rest are e body knows true long on =
       let s = take (1 + body) (kind ∷ rest) in
       let more = drop (1 + body) (kind ∷ rest) in
       on (past ++ s ∷ []) more
@@ -99,20 +99,20 @@ module _ {C : Type 0} (kinds : Kinds C) where
       (e ∙ ap (λ (t : List ℕ). row past ++ t) (sym (take-append-drop (1 + body) (kind ∷ rest))) ∙ row_more past s more)
       (omega (arith, length-drop (1 + body) (kind ∷ rest)))
 
-  by-kind : {script : List ℕ} (past : List (List ℕ)) (kind : ℕ) (rest : List ℕ) → AreSteps kinds past → script ≡ row past ++ kind ∷ rest →
+  by_kind : {script : List ℕ} (past : List (List ℕ)) (kind : ℕ) (rest : List ℕ) → AreSteps kinds past → script ≡ row past ++ kind ∷ rest →
       (o : Option ℕ) → kinds.body kind ≡ o →
       ((past' : List (List ℕ)) (rest' : List ℕ) → AreSteps kinds past' → script ≡ row past' ++ rest' → length rest' ≤ length rest → Known script) → Known script
-  by-kind past kind rest are e None knows on = (_, odd (past, kind, rest, are, e, refl, knows))
-  by-kind past kind rest are e (Some body) knows on = with-body past kind rest are e body knows (leb (1 + body) (length (kind ∷ rest))) refl on
+  by_kind past kind rest are e None knows on = (_, odd (past, kind, rest, are, e, refl, knows))
+  by_kind past kind rest are e (Some body) knows on = with_body past kind rest are e body knows (leb (1 + body) (length (kind ∷ rest))) refl on
 
-  what-is : {script : List ℕ} (most : ℕ) (past : List (List ℕ)) (rest : List ℕ) → AreSteps kinds past → script ≡ row past ++ rest → length rest ≤ most → Known script
-  what-is most past [] are e few = (_, whole past are (e ∙ append-nil (row past)))
-  what-is zero past (kind ∷ rest) are e few = absurd (omega arith)
-  what-is (suc most) past (kind ∷ rest) are e few =
-      by-kind past kind rest are e (kinds.body kind) refl (λ past' rest' are' e' few'. what-is most past' rest' are' e' (omega (arith, few, few')))
+  what_is : {script : List ℕ} (most : ℕ) (past : List (List ℕ)) (rest : List ℕ) → AreSteps kinds past → script ≡ row past ++ rest → length rest ≤ most → Known script
+  what_is most past [] are e few = (_, whole past are (e ∙ append-nil (row past)))
+  what_is zero past (kind ∷ rest) are e few = absurd (omega arith)
+  what_is (suc most) past (kind ∷ rest) are e few =
+      by_kind past kind rest are e (kinds.body kind) refl (λ past' rest' are' e' few'. what_is most past' rest' are' e' (omega (arith, few, few')))
 
   read_is : (script : List ℕ) {r : Reading C} → read_script kinds script ≡ r → Is script r
-  read_is script e = let w = what-is (length script) [] script tt refl (omega arith) in subst (Is script) (sym (is_read w.1) ∙ e) w.1
+  read_is script e = let w = what_is (length script) [] script tt refl (omega arith) in subst (Is script) (sym (is_read w.1) ∙ e) w.1
 
   pub reads_exactly : ReadsExactly kinds
   reads_exactly =

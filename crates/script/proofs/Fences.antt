@@ -13,100 +13,100 @@ use Rattle.script.specs.Replies.{all_board_bytes}
 use Rattle.script.specs.Runs.{outcome_of, playing, refusing}
 use Rattle.script.specs.Kept.{FencedKept, KeepsFenced, Names, NamedBy, KeepsUnnamed}
 
-kept-same : (i : Image) → FencedKept i i
-kept-same [] = tt
-kept-same (c ∷ i) = (refl, (λ h. refl), kept-same i)
+kept_same : (i : Image) → FencedKept i i
+kept_same [] = tt
+kept_same (c ∷ i) = (refl, (λ h. refl), kept_same i)
 
-kept-on : (a b c : Image) → FencedKept a b → FencedKept b c → FencedKept a c
-kept-on [] [] [] h k = tt
-kept-on [] [] (z ∷ c) h k = absurd k
-kept-on [] (y ∷ b) c h k = absurd h
-kept-on (x ∷ a) [] c h k = absurd h
-kept-on (x ∷ a) (y ∷ b) [] h k = absurd k
-kept-on (x ∷ a) (y ∷ b) (z ∷ c) (f, bytes, h) (g, more, k) = (g ∙ f, (λ (e : x.fenced ≡ true). more (f ∙ e) ∙ bytes e), kept-on a b c h k)
+kept_on : (a b c : Image) → FencedKept a b → FencedKept b c → FencedKept a c
+kept_on [] [] [] h k = tt
+kept_on [] [] (z ∷ c) h k = absurd k
+kept_on [] (y ∷ b) c h k = absurd h
+kept_on (x ∷ a) [] c h k = absurd h
+kept_on (x ∷ a) (y ∷ b) [] h k = absurd k
+kept_on (x ∷ a) (y ∷ b) (z ∷ c) (f, bytes, h) (g, more, k) = (g ∙ f, (λ (e : x.fenced ≡ true). more (f ∙ e) ∙ bytes e), kept_on a b c h k)
 
-kept-behind : (front a b : Image) → FencedKept a b → FencedKept (front ++ a) (front ++ b)
-kept-behind [] a b h = h
-kept-behind (c ∷ front) a b h = (refl, (λ e. refl), kept-behind front a b h)
+kept_behind : (front a b : Image) → FencedKept a b → FencedKept (front ++ a) (front ++ b)
+kept_behind [] a b h = h
+kept_behind (c ∷ front) a b h = (refl, (λ e. refl), kept_behind front a b h)
 
 -- of a range with no fence
-free-first : (f : Bool) (at : ℕ) (o : Option ℕ) → cond f (Some at) o ≡ None → (f ≡ false) × (o ≡ None)
-free-first false at o e = (refl, e)
-free-first true at o e = absurd (grind arith)
+free_first : (f : Bool) (at : ℕ) (o : Option ℕ) → cond f (Some at) o ≡ None → (f ≡ false) × (o ≡ None)
+free_first false at o e = (refl, e)
+free_first true at o e = absurd (grind arith)
 
-kept-overlaid : (at : ℕ) (cs : List Cell) (bytes : List ℕ) → first_fenced at (take (length bytes) cs) ≡ None → FencedKept cs (overlaid cs bytes)
-kept-overlaid at [] bytes e = tt
-kept-overlaid at (c ∷ cs) [] e = kept-same (c ∷ cs)
-kept-overlaid at (c ∷ cs) (b ∷ bytes) e =
-    let free = free-first c.fenced at (first_fenced (at + 1) (take (length bytes) cs)) e in
-    (refl, (λ (h : c.fenced ≡ true). absurd (bools (sym h ∙ free.0))), kept-overlaid (at + 1) cs bytes free.1)
+kept_overlaid : (at : ℕ) (cs : List Cell) (bytes : List ℕ) → first_fenced at (take (length bytes) cs) ≡ None → FencedKept cs (overlaid cs bytes)
+kept_overlaid at [] bytes e = tt
+kept_overlaid at (c ∷ cs) [] e = kept_same (c ∷ cs)
+kept_overlaid at (c ∷ cs) (b ∷ bytes) e =
+    let free = free_first c.fenced at (first_fenced (at + 1) (take (length bytes) cs)) e in
+    (refl, (λ (h : c.fenced ≡ true). absurd (bools (sym h ∙ free.0))), kept_overlaid (at + 1) cs bytes free.1)
   where
     bools : true ≡ false → ⊥
     bools h = grind arith
 
-kept-written : (i : Image) (start : ℕ) (bytes : List ℕ) (lies : Bool) (o : Option ℕ) → o ≡ fence_in i start (length bytes) →
+kept_written : (i : Image) (start : ℕ) (bytes : List ℕ) (lies : Bool) (o : Option ℕ) → o ≡ fence_in i start (length bytes) →
     FencedKept i (if_accepted (cond lies (unless_fenced o) (Err OutOfRange)) (overwritten i start bytes) i)
-kept-written i start bytes false o e = kept-same i
-kept-written i start bytes true (Some place) e = kept-same i
-kept-written i start bytes true None e =
+kept_written i start bytes false o e = kept_same i
+kept_written i start bytes true (Some place) e = kept_same i
+kept_written i start bytes true None e =
     subst (λ (j : Image). FencedKept j (overwritten i start bytes)) (take-append-drop start i)
-    (kept-behind (take start i) (drop start i) (overlaid (drop start i) bytes) (kept-overlaid start (drop start i) bytes (sym e)))
+    (kept_behind (take start i) (drop start i) (overlaid (drop start i) bytes) (kept_overlaid start (drop start i) bytes (sym e)))
 
-kept-after : (i : Image) (c : Call) → FencedKept i (after i c)
-kept-after i size = kept-same i
-kept-after i (fence start count) = kept-same i
-kept-after i (read start count) = kept-same i
-kept-after i (write start bytes) = kept-written i start bytes (inside i start (length bytes)) (fence_in i start (length bytes)) refl
+kept_after : (i : Image) (c : Call) → FencedKept i (after i c)
+kept_after i size = kept_same i
+kept_after i (fence start count) = kept_same i
+kept_after i (read start count) = kept_same i
+kept_after i (write start bytes) = kept_written i start bytes (inside i start (length bytes)) (fence_in i start (length bytes)) refl
 
-kept-run : (i : Image) (calls : List Call) → FencedKept i (run i calls)
-kept-run i [] = kept-same i
-kept-run i (c ∷ calls) = kept-on i (after i c) (run (after i c) calls) (kept-after i c) (kept-run (after i c) calls)
+kept_run : (i : Image) (calls : List Call) → FencedKept i (run i calls)
+kept_run i [] = kept_same i
+kept_run i (c ∷ calls) = kept_on i (after i c) (run (after i c) calls) (kept_after i c) (kept_run (after i c) calls)
 
-left-kept : (i : Image) (buffer : List ℕ) (k : Reading Call) → FencedKept i (outcome_of board_kinds run (λ j calls. all_board_bytes (answers j calls)) k i buffer).left
-left-kept i buffer (stops e) = kept-same i
-left-kept i buffer (reads calls) = go (leb (9 * length calls) (length buffer))
+left_kept : (i : Image) (buffer : List ℕ) (k : Reading Call) → FencedKept i (outcome_of board_kinds run (λ j calls. all_board_bytes (answers j calls)) k i buffer).left
+left_kept i buffer (stops e) = kept_same i
+left_kept i buffer (reads calls) = go (leb (9 * length calls) (length buffer))
   where
     go : (f : Bool) →
         FencedKept i (cond f (playing board_kinds run (λ j calls. all_board_bytes (answers j calls)) i calls (all_board_bytes (answers i calls)) buffer) (refusing ShortBuffer i buffer)).left
-    go true = kept-run i calls
-    go false = kept-same i
+    go true = kept_run i calls
+    go false = kept_same i
 
 pub keeps_fenced : KeepsFenced
-keeps_fenced i script buffer = left-kept i buffer (read_script board_kinds script)
+keeps_fenced i script buffer = left_kept i buffer (read_script board_kinds script)
 
 -- a place that a write does not name
-unnamed-overlaid : (cs : List Cell) (bytes : List ℕ) (place : ℕ) → (place < length bytes → ⊥) → take 1 (drop place (overlaid cs bytes)) ≡ take 1 (drop place cs)
-unnamed-overlaid [] bytes place h = refl
-unnamed-overlaid (c ∷ cs) [] place h = refl
-unnamed-overlaid (c ∷ cs) (b ∷ bytes) zero h = absurd (h (omega arith))
-unnamed-overlaid (c ∷ cs) (b ∷ bytes) (suc place) h = unnamed-overlaid cs bytes place (λ k. h (omega (arith, k)))
+unnamed_overlaid : (cs : List Cell) (bytes : List ℕ) (place : ℕ) → (place < length bytes → ⊥) → take 1 (drop place (overlaid cs bytes)) ≡ take 1 (drop place cs)
+unnamed_overlaid [] bytes place h = refl
+unnamed_overlaid (c ∷ cs) [] place h = refl
+unnamed_overlaid (c ∷ cs) (b ∷ bytes) zero h = absurd (h (omega arith))
+unnamed_overlaid (c ∷ cs) (b ∷ bytes) (suc place) h = unnamed_overlaid cs bytes place (λ k. h (omega (arith, k)))
 
-unnamed-overwritten : (start : ℕ) (i : Image) (bytes : List ℕ) (place : ℕ) → ((start ≤ place) × (place < start + length bytes) → ⊥) →
+unnamed_overwritten : (start : ℕ) (i : Image) (bytes : List ℕ) (place : ℕ) → ((start ≤ place) × (place < start + length bytes) → ⊥) →
     take 1 (drop place (overwritten i start bytes)) ≡ take 1 (drop place i)
-unnamed-overwritten zero i bytes place h = unnamed-overlaid i bytes place (λ k. h (omega arith, omega (arith, k)))
-unnamed-overwritten (suc start) [] bytes place h = refl
-unnamed-overwritten (suc start) (c ∷ i) bytes zero h = refl
-unnamed-overwritten (suc start) (c ∷ i) bytes (suc place) h =
-    unnamed-overwritten start i bytes place (λ k. h (omega (arith, k.0), omega (arith, k.1)))
+unnamed_overwritten zero i bytes place h = unnamed_overlaid i bytes place (λ k. h (omega arith, omega (arith, k)))
+unnamed_overwritten (suc start) [] bytes place h = refl
+unnamed_overwritten (suc start) (c ∷ i) bytes zero h = refl
+unnamed_overwritten (suc start) (c ∷ i) bytes (suc place) h =
+    unnamed_overwritten start i bytes place (λ k. h (omega (arith, k.0), omega (arith, k.1)))
 
-unnamed-written : (i : Image) (start : ℕ) (bytes : List ℕ) (place : ℕ) → ((start ≤ place) × (place < start + length bytes) → ⊥) →
+unnamed_written : (i : Image) (start : ℕ) (bytes : List ℕ) (place : ℕ) → ((start ≤ place) × (place < start + length bytes) → ⊥) →
     part (written i start bytes) place 1 ≡ part i place 1
-unnamed-written i start bytes place h = go (write_result i start bytes)
+unnamed_written i start bytes place h = go (write_result i start bytes)
   where
     go : (r : Result (Unit {0}) Refusal) → part (if_accepted r (overwritten i start bytes) i) place 1 ≡ part i place 1
-    go (Ok u) = unnamed-overwritten start i bytes place h
+    go (Ok u) = unnamed_overwritten start i bytes place h
     go (Err e) = refl
 
-unnamed-after : (i : Image) (c : Call) (place : ℕ) → (Names c place → ⊥) → part (after i c) place 1 ≡ part i place 1
-unnamed-after i size place h = refl
-unnamed-after i (fence start count) place h = refl
-unnamed-after i (read start count) place h = refl
-unnamed-after i (write start bytes) place h = unnamed-written i start bytes place h
+unnamed_after : (i : Image) (c : Call) (place : ℕ) → (Names c place → ⊥) → part (after i c) place 1 ≡ part i place 1
+unnamed_after i size place h = refl
+unnamed_after i (fence start count) place h = refl
+unnamed_after i (read start count) place h = refl
+unnamed_after i (write start bytes) place h = unnamed_written i start bytes place h
 
-unnamed-run : (i : Image) (calls : List Call) (place : ℕ) → (NamedBy calls place → ⊥) → part (run i calls) place 1 ≡ part i place 1
-unnamed-run i [] place h = refl
-unnamed-run i (c ∷ calls) place h =
-    unnamed-run (after i c) calls place (λ n. h (inr n)) ∙ unnamed-after i c place (λ n. h (inl n))
+unnamed_run : (i : Image) (calls : List Call) (place : ℕ) → (NamedBy calls place → ⊥) → part (run i calls) place 1 ≡ part i place 1
+unnamed_run i [] place h = refl
+unnamed_run i (c ∷ calls) place h =
+    unnamed_run (after i c) calls place (λ n. h (inr n)) ∙ unnamed_after i c place (λ n. h (inl n))
 
 pub keeps_unnamed : KeepsUnnamed
 keeps_unnamed i script buffer calls place is h =
@@ -116,7 +116,7 @@ keeps_unnamed i script buffer calls place is h =
     go : (f : Bool) →
         part (cond f (playing board_kinds run (λ j cs. all_board_bytes (answers j cs)) i calls (all_board_bytes (answers i calls)) buffer) (refusing ShortBuffer i buffer)).left place 1
         ≡ part i place 1
-    go true = unnamed-run i calls place h
+    go true = unnamed_run i calls place h
     go false = refl
 
 pub ruleset fences = (keeps_fenced, keeps_unnamed)

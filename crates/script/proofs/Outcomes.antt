@@ -28,28 +28,28 @@ module _ {X C : Type 0} (kinds : Kinds C) {left left' : X → List C → X} {rep
       go (reads calls) = same_playing x calls buffer (leb (9 * length calls) (length buffer))
 
 module _ (K : Keeping) where
-  chip-left : (c : Chip K.Session) (calls : List Call) → all_after (after K) c calls ≡ run K c calls
-  chip-left c [] = refl
-  chip-left c (x ∷ calls) = chip-left (after K c x) calls
+  chip_left : (c : Chip K.Session) (calls : List Call) → all_after (after K) c calls ≡ run K c calls
+  chip_left c [] = refl
+  chip_left c (x ∷ calls) = chip_left (after K c x) calls
 
-  chip-bytes : (c : Chip K.Session) (calls : List Call) → all_replies (after K) (λ c x. answer_bytes (answer K c x)) c calls ≡ all_bytes (answers K c calls)
-  chip-bytes c [] = refl
-  chip-bytes c (x ∷ calls) = ap (λ (bytes : List ℕ). answer_bytes (answer K c x) ++ bytes) (chip-bytes (after K c x) calls)
+  chip_bytes : (c : Chip K.Session) (calls : List Call) → all_replies (after K) (λ c x. answer_bytes (answer K c x)) c calls ≡ all_bytes (answers K c calls)
+  chip_bytes c [] = refl
+  chip_bytes c (x ∷ calls) = ap (λ (bytes : List ℕ). answer_bytes (answer K c x) ++ bytes) (chip_bytes (after K c x) calls)
 
   pub chips : (c : Chip K.Session) (script buffer : List ℕ) →
       outcome_by chip_kinds (all_after (after K)) (all_replies (after K) (λ c x. answer_bytes (answer K c x))) c script buffer ≡ outcome K c script buffer
-  chips c script buffer = same_outcome chip_kinds chip-left chip-bytes c script buffer
+  chips c script buffer = same_outcome chip_kinds chip_left chip_bytes c script buffer
 
-board-left : (i : Image) (calls : List BoardCall) → all_after board_after i calls ≡ board_run i calls
-board-left i [] = refl
-board-left i (x ∷ calls) = board-left (board_after i x) calls
+board_left : (i : Image) (calls : List BoardCall) → all_after board_after i calls ≡ board_run i calls
+board_left i [] = refl
+board_left i (x ∷ calls) = board_left (board_after i x) calls
 
-board-bytes : (i : Image) (calls : List BoardCall) →
+board_bytes : (i : Image) (calls : List BoardCall) →
     all_replies board_after (λ i x. board_answer_bytes (board_answer i x)) i calls ≡ all_board_bytes (board_answers i calls)
-board-bytes i [] = refl
-board-bytes i (x ∷ calls) = ap (λ (bytes : List ℕ). board_answer_bytes (board_answer i x) ++ bytes) (board-bytes (board_after i x) calls)
+board_bytes i [] = refl
+board_bytes i (x ∷ calls) = ap (λ (bytes : List ℕ). board_answer_bytes (board_answer i x) ++ bytes) (board_bytes (board_after i x) calls)
 
 pub boards : (i : Image) (script buffer : List ℕ) →
     outcome_by board_kinds (all_after board_after) (all_replies board_after (λ i x. board_answer_bytes (board_answer i x))) i script buffer
     ≡ board_outcome i script buffer
-boards i script buffer = same_outcome board_kinds board-left board-bytes i script buffer
+boards i script buffer = same_outcome board_kinds board_left board_bytes i script buffer

@@ -20,11 +20,11 @@ replies K c calls = all_bytes (answers K c calls)
 abbrev pub kept_outcome : Outcome (Chip (List Bool)) → Outcome (Chip Registers)
 kept_outcome o = record { result = o.result; left = kept_chip o.left; buffer = o.buffer }
 
-same-playing : (c : Chip (List Bool)) (calls : List Call) (buffer : List ℕ) (fits : Bool) →
+kept_playing : (c : Chip (List Bool)) (calls : List Call) (buffer : List ℕ) (fits : Bool) →
     cond fits (playing chip_kinds (run bounded) (replies bounded) (kept_chip c) calls (replies bounded (kept_chip c) calls) buffer) (refusing ShortBuffer (kept_chip c) buffer)
     ≡ kept_outcome (cond fits (playing chip_kinds (run whole) (replies whole) c calls (replies whole c calls) buffer) (refusing ShortBuffer c buffer))
-same-playing c calls buffer false = refl
-same-playing c calls buffer true =
+kept_playing c calls buffer false = refl
+kept_playing c calls buffer true =
     let same = enough c calls in
     ap₂
     (λ (told : List Answer) (d : Chip Registers).
@@ -41,7 +41,7 @@ same_kept c script buffer = go (read_script chip_kinds script)
     go : (k : Reading Call) →
         outcome_of chip_kinds (run bounded) (replies bounded) k (kept_chip c) buffer ≡ kept_outcome (outcome_of chip_kinds (run whole) (replies whole) k c buffer)
     go (stops e) = refl
-    go (reads calls) = same-playing c calls buffer (leb (9 * length calls) (length buffer))
+    go (reads calls) = kept_playing c calls buffer (leb (9 * length calls) (length buffer))
 
 -- the same of a run that begins at power on
 pub from_power : {c : Chip Registers} {s : Sheet} {memory : List ℕ} {stored : ℕ} (script buffer : List ℕ) → c ≡ powered s memory stored →

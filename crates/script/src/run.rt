@@ -114,9 +114,9 @@ trait Runs<'s> {
 #[tactic(auto, using(crate::proofs::Going::goes_on))]
 fn run<'s, X: Runs<'s>>(on: &mut X, script: &'s [u8], buffer: &mut [u8]) -> Result<Counts, Refusal>
     ensures result { result ≡ (outcome_by X.kinds (all_after X.after) (all_replies X.after X.reply) (X.state on.old) script.now buffer.old).result }
-    ensures left { X.state on.new ≡ (outcome_by X.kinds (all_after X.after) (all_replies X.after X.reply) (X.state on.old) script.now buffer.old).left }
-    ensures buffer { buffer.new ≡ (outcome_by X.kinds (all_after X.after) (all_replies X.after X.reply) (X.state on.old) script.now buffer.old).buffer }
     ensures within { IfOk result (λ counts. counts.bytes ≤ length buffer.old) }
+    ensures buffer { buffer.new ≡ (outcome_by X.kinds (all_after X.after) (all_replies X.after X.reply) (X.state on.old) script.now buffer.old).buffer }
+    ensures left { X.state on.new ≡ (outcome_by X.kinds (all_after X.after) (all_replies X.after X.reply) (X.state on.old) script.now buffer.old).left }
     ensures lent { X.lent on.new ≡ X.lent on.old }
 {
     let steps = count_steps::<X>(script)?;

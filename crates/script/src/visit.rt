@@ -18,11 +18,11 @@ pub fn chip_visit(
     buffer: &mut [u8],
 ) -> (Result<Counts, Refusal>, ParkedChip)
     ensures result { result.0 ≡ (outcome whole (powered parked.sheet memory.old parked.stored.bits) script.now buffer.old).result }
-    ensures sheet { result.1.sheet ≡ (outcome whole (powered parked.sheet memory.old parked.stored.bits) script.now buffer.old).left.sheet }
-    ensures stored { result.1.stored.bits ≡ (outcome whole (powered parked.sheet memory.old parked.stored.bits) script.now buffer.old).left.rec.stored }
-    ensures memory { memory.new ≡ (outcome whole (powered parked.sheet memory.old parked.stored.bits) script.now buffer.old).left.rec.memory }
-    ensures buffer { buffer.new ≡ (outcome whole (powered parked.sheet memory.old parked.stored.bits) script.now buffer.old).buffer }
     ensures within { IfOk result.0 (λ counts. counts.bytes ≤ length buffer.old) }
+    ensures buffer { buffer.new ≡ (outcome whole (powered parked.sheet memory.old parked.stored.bits) script.now buffer.old).buffer }
+    ensures memory { memory.new ≡ (outcome whole (powered parked.sheet memory.old parked.stored.bits) script.now buffer.old).left.rec.memory }
+    ensures stored { result.1.stored.bits ≡ (outcome whole (powered parked.sheet memory.old parked.stored.bits) script.now buffer.old).left.rec.stored }
+    ensures sheet { result.1.sheet ≡ (outcome whole (powered parked.sheet memory.old parked.stored.bits) script.now buffer.old).left.sheet }
 {
     let mut chip = parked.power(memory);
     let result = chip_run(&mut chip, script, buffer);

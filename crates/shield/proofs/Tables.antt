@@ -70,45 +70,45 @@ shared_first r s n first both e is = go (cases_lt (first - r.start) r.count) (ca
 
 -- ## The first place that one of some ranges has
 
-pub cover-late : (rs : List Range) (n at f : ℕ) → first_covered rs at n ≡ Some f → at ≤ f
-cover-late rs zero at f e = absurd (cc)
-cover-late rs (suc n) at f e = go (covered rs at) e (cover-late rs n (at + 1) f)
+pub cover_late : (rs : List Range) (n at f : ℕ) → first_covered rs at n ≡ Some f → at ≤ f
+cover_late rs zero at f e = absurd (cc)
+cover_late rs (suc n) at f e = go (covered rs at) e (cover_late rs n (at + 1) f)
   where
     go : (b : Bool) → cond b (Some at) (first_covered rs (at + 1) n) ≡ Some f → (first_covered rs (at + 1) n ≡ Some f → at + 1 ≤ f) → at ≤ f
     go true e h = let z : at ≡ f = cc in omega arith
     go false e h = let k = h e in omega arith
 
 -- what lies at a place is earlier than what lies further on
-pub earlier-step : (at : ℕ) (a b : Bool) (x more rest : Option ℕ) → ((f : ℕ) → more ≡ Some f → at ≤ f) → ((f : ℕ) → rest ≡ Some f → at ≤ f) →
+pub earlier_step : (at : ℕ) (a b : Bool) (x more rest : Option ℕ) → ((f : ℕ) → more ≡ Some f → at ≤ f) → ((f : ℕ) → rest ≡ Some f → at ≤ f) →
     x ≡ earlier more rest → cond (a || b) (Some at) x ≡ earlier (cond a (Some at) more) (cond b (Some at) rest)
-earlier-step at true true x more rest p q e = ap Some (omega arith)
-earlier-step at true false x more None p q e = refl
-earlier-step at true false x more (Some f) p q e = let h = q f refl in ap Some (omega arith)
-earlier-step at false true x None rest p q e = refl
-earlier-step at false true x (Some f) rest p q e = let h = p f refl in ap Some (omega arith)
-earlier-step at false false x more rest p q e = e
+earlier_step at true true x more rest p q e = ap Some (omega arith)
+earlier_step at true false x more None p q e = refl
+earlier_step at true false x more (Some f) p q e = let h = q f refl in ap Some (omega arith)
+earlier_step at false true x None rest p q e = refl
+earlier_step at false true x (Some f) rest p q e = let h = p f refl in ap Some (omega arith)
+earlier_step at false false x more rest p q e = e
 
 -- it is the first of one of them, or the first of the others, whichever is earlier
-covered-earlier : (r : Range) (rs : List Range) (n at : ℕ) → first_covered (r ∷ rs) at n ≡ earlier (first_covered (r ∷ []) at n) (first_covered rs at n)
-covered-earlier r rs zero at = refl
-covered-earlier r rs (suc n) at =
+covered_earlier : (r : Range) (rs : List Range) (n at : ℕ) → first_covered (r ∷ rs) at n ≡ earlier (first_covered (r ∷ []) at n) (first_covered rs at n)
+covered_earlier r rs zero at = refl
+covered_earlier r rs (suc n) at =
     rw (or-false (has r at))
-    (earlier-step at (has r at) (covered rs at) _ (first_covered (r ∷ []) (at + 1) n) (first_covered rs (at + 1) n)
-    (λ f e. let k = cover-late (r ∷ []) n (at + 1) f e in omega arith) (λ f e. let k = cover-late rs n (at + 1) f e in omega arith) (covered-earlier r rs n (at + 1)))
+    (earlier_step at (has r at) (covered rs at) _ (first_covered (r ∷ []) (at + 1) n) (first_covered rs (at + 1) n)
+    (λ f e. let k = cover_late (r ∷ []) n (at + 1) f e in omega arith) (λ f e. let k = cover_late rs n (at + 1) f e in omega arith) (covered_earlier r rs n (at + 1)))
 
-fold-min : (a b : ℕ) (xs : List ℕ) → fold min (min a b) xs ≡ min a (fold min b xs)
-fold-min a b [] = refl
-fold-min a b (x ∷ xs) = let e : min (min a b) x ≡ min a (min b x) = omega arith in ap (λ (k : ℕ). fold min k xs) e ∙ fold-min a (min b x) xs
+fold_min : (a b : ℕ) (xs : List ℕ) → fold min (min a b) xs ≡ min a (fold min b xs)
+fold_min a b [] = refl
+fold_min a b (x ∷ xs) = let e : min (min a b) x ≡ min a (min b x) = omega arith in ap (λ (k : ℕ). fold min k xs) e ∙ fold_min a (min b x) xs
 
-least-earlier : (o : Option ℕ) (xs : List ℕ) → reduce min (cons_option o xs) ≡ earlier o (reduce min xs)
-least-earlier None xs = refl
-least-earlier (Some a) [] = refl
-least-earlier (Some a) (x ∷ xs) = ap Some (fold-min a x xs)
+least_earlier : (o : Option ℕ) (xs : List ℕ) → reduce min (cons_option o xs) ≡ earlier o (reduce min xs)
+least_earlier None xs = refl
+least_earlier (Some a) [] = refl
+least_earlier (Some a) (x ∷ xs) = ap Some (fold_min a x xs)
 
 -- so it is the least of the first places of each
 pub least_covered : (rs : List Range) (s n : ℕ) → reduce min (filter_map (λ r. first_covered (r ∷ []) s n) rs) ≡ first_covered rs s n
 least_covered [] s n = sym (none_found [] n s (λ place from to. refl))
 least_covered (r ∷ rs) s n =
-    least-earlier (first_covered (r ∷ []) s n) (filter_map (λ r. first_covered (r ∷ []) s n) rs)
+    least_earlier (first_covered (r ∷ []) s n) (filter_map (λ r. first_covered (r ∷ []) s n) rs)
     ∙ ap (earlier (first_covered (r ∷ []) s n)) (least_covered rs s n)
-    ∙ sym (covered-earlier r rs n s)
+    ∙ sym (covered_earlier r rs n s)

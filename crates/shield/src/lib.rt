@@ -1,4 +1,7 @@
 // A shield: a board with further cells fenced.
+//
+// What it promises: that of a board, with the cells of its ranges fenced besides; a ninth range is refused, and widening
+// changes the range in the table itself.
 #![tactic(auto)]
 
 mod layer;

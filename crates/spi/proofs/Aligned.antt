@@ -14,16 +14,16 @@ use Rattle.spi.specs.Steps.{Moment, falling}
 use Rattle.spi.specs.Bytewise.{whole_bytes, whole_session, taken_byte, step_byte}
 use Rattle.spi.specs.Lines.{AtLine}
 use Rattle.spi.specs.Meanings.{kept_of, next_read, AtRest}
-use Rattle.spi.proofs.Bytewise.{byte-at-once}
-use Rattle.spi.proofs.Calls.{unlike, byte-at-pins, blank-puts}
+use Rattle.spi.proofs.Bytewise.{byte_at_once}
+use Rattle.spi.proofs.Calls.{unlike, byte_at_pins, blank_puts}
 
 -- where one is open
 pub session_whole : (o : Bool) (k : Registers) → whole_bytes k ≡ true → whole_session (cond o (Some k) None) ≡ true
 session_whole true k h = h
 session_whole false k h = refl
 
-taken-whole : (s : Sheet) (k : Registers) (x : ℕ) → whole_bytes k ≡ true → whole_bytes (taken_byte s k x) ≡ true
-taken-whole s k x h = grind arith
+taken_whole : (s : Sheet) (k : Registers) (x : ℕ) → whole_bytes k ≡ true → whole_bytes (taken_byte s k x) ≡ true
+taken_whole s k x h = grind arith
 
 -- a session that began asleep takes nothing
 pub step_whole : (s : Sheet) (wp : Bool) (m : Moment Registers) (x : ℕ) → whole_bytes m.kept ≡ true → whole_bytes (step_byte s wp m x).kept ≡ true
@@ -31,7 +31,7 @@ step_whole s wp m x h = go m.rec.asleep _ _ refl refl
   where
     go : (a : Bool) (n p : Moment Registers) → n.kept ≡ m.kept → p.kept ≡ taken_byte s m.kept x → whole_bytes (cond a n p).kept ≡ true
     go true n p d e = ap whole_bytes d ∙ h
-    go false n p d e = ap whole_bytes e ∙ taken-whole s m.kept x h
+    go false n p d e = ap whole_bytes e ∙ taken_whole s m.kept x h
 
 module _ (mode : Mode) (wp : Bool) (waits : ℕ) (s : Sheet) (r : Record) (x : ℕ) (small : x < 256) where
   abbrev line : Bool → Pins Registers → Bool → AtLine Registers
@@ -47,12 +47,12 @@ module _ (mode : Mode) (wp : Bool) (waits : ℕ) (s : Sheet) (r : Record) (x : �
       Leaves (line true (selected (rest mode) true k so) true).chip
   within k so e h =
       let m : Moment Registers = record { rec = r; kept = k; so = falling bounded s r k } in
-      let did = byte-at-pins bounded mode wp waits s m so x e in
-      let at-once = ap (λ (n : Moment Registers). whole_bytes n.kept) (byte-at-once s wp m x h small).0 ∙ step_whole s wp m x h in
+      let did = byte_at_pins bounded mode wp waits s m so x e in
+      let at-once = ap (λ (n : Moment Registers). whole_bytes n.kept) (byte_at_once s wp m x h small).0 ∙ step_whole s wp m x h in
       subst Whole (sym did.0.1) at-once
 
   any : (f : Bool) (p : Pins Registers) (o : Bool) → AtRest bounded mode (line f p o) → Whole (line f p o).chip → o ≡ true → Leaves (line f p o).chip
-  any false p o rest whole e = subst Whole (sym (blank-puts bounded s r p (byte_samples mode wp waits x))) refl
+  any false p o rest whole e = subst Whole (sym (blank_puts bounded s r p (byte_samples mode wp waits x))) refl
   any true deselected o rest whole e = absurd (unlike (sym (rest refl) ∙ e))
   any true (selected sck hold k so) o rests whole e =
       let at = rests refl in

@@ -27,11 +27,11 @@ module _ (K : Keeping) where
   any s wp false r o x e = call s wp r o x
   any s wp true r o x e = absurd (search rules)
 
-  pub blank-reads-ones : BlankReadsOnes K
-  blank-reads-ones b [] e = (refl, refl)
-  blank-reads-ones b (x ∷ xs) e =
+  pub blank_reads_ones : BlankReadsOnes K
+  blank_reads_ones b [] e = (refl, refl)
+  blank_reads_ones b (x ∷ xs) e =
       let did = any b.sheet b.wp b.fitted b.rec b.session x e in
-      let left = blank-reads-ones (after K b x) xs (did.0 ∙ e) in (
+      let left = blank_reads_ones (after K b x) xs (did.0 ∙ e) in (
         ap₂ (λ (a : BusCall) (as' : List BusCall). a ∷ as') did.2 left.0,
         left.1 ∙ did.1,
       )

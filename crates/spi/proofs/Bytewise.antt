@@ -18,8 +18,8 @@ use Rattle.datasheet.specs.Commands.{command_at, command_of, first_data}
 use Rattle.datasheet.specs.Rises.{effect}
 use Rattle.datasheet.specs.Falls.{shown}
 use Rattle.datasheet.specs.Kept.{bounded, taken, turns, fall_kept}
-use Rattle.laws.proofs.Bits.{number-bits_of}
-use Rattle.laws.proofs.Simulation.{double-mod}
+use Rattle.laws.proofs.Bits.{number_bits_of}
+use Rattle.laws.proofs.Simulation.{double_mod}
 use Rattle.spi.specs.Steps.{Moment, falling, step, steps, reads}
 use Rattle.spi.specs.Bytewise.{taken_byte, record_after, shown_byte, step_byte, read_byte}
 use Rattle.spi.specs.Laws.{ByteAtOnce}
@@ -27,24 +27,24 @@ use Rattle.spi.specs.Laws.{ByteAtOnce}
 -- ## The byte that is shown
 
 -- the low eight bits of a number; eight equal bits; a bit that is driven
-bit_at-mod : (j y : ℕ) → j < 8 → bit_at j (y % 256) ≡ bit_at j y
-bit_at-mod j y h =
+bit_at_mod : (j y : ℕ) → j < 8 → bit_at j (y % 256) ≡ bit_at j y
+bit_at_mod j y h =
     let p : 8 ≡ 1 + (7 - j) + j = omega arith in
     let q = mod-mod_of_dvd 2 (y / 2 ^ j) (dvd-mul_right 2 (2 ^ (7 - j))) in
     ap (λ z. eqb (z % 2) 1) (ap (λ e. y % 2 ^ e / 2 ^ j) p ∙ field_of y (1 + (7 - j)) j)
     ∙ rw (pow-add 2 1 (7 - j)) (ap (λ z. eqb z 1) q)
 
-bit_at-same : (b : Bool) (j : ℕ) → j < 8 → bit_at j (255 * bit b) ≡ b
-bit_at-same false j h = rw (zero-div (2 ^ j))
-bit_at-same true j h =
+bit_at_same : (b : Bool) (j : ℕ) → j < 8 → bit_at j (255 * bit b) ≡ b
+bit_at_same false j h = rw (zero-div (2 ^ j))
+bit_at_same true j h =
     (Decides-below_and (λ j. bit_at j 255) (λ j. bit_at j 255 ≡ true) ones (λ j. (λ e. e, λ e. e)) refl (λ j. refl) 8).0 refl j h
   where
     ones : ℕ → Bool
     ones zero = true
     ones (suc j) = bit_at j 255 && ones j
 
-read_as-driven : (t : Bool) → read_as (driven t) ≡ t
-read_as-driven t = grind arith
+read_as_driven : (t : Bool) → read_as (driven t) ≡ t
+read_as_driven t = grind arith
 
 -- after m bits, of which n are whole bytes, the bit shown is the next one of the byte that is shown
 module _ (n m : ℕ) (f : n % 8 ≡ 0) (g : n ≤ m) (h : m < n + 8) where
@@ -52,72 +52,72 @@ module _ (n m : ℕ) (f : n % 8 ≡ 0) (g : n ≤ m) (h : m < n + 8) where
   j = n + 7 - m
 
   dark : true ≡ bit_at j 255
-  dark = sym (bit_at-same true j (omega arith))
+  dark = sym (bit_at_same true j (omega arith))
 
-  data-bit : (t y : ℕ) → t % 8 ≡ 0 → t ≤ n → read_as (driven (bit_at (7 - (m - t) % 8) y)) ≡ bit_at j (y % 256)
-  data-bit t y z l =
+  data_bit : (t y : ℕ) → t % 8 ≡ 0 → t ≤ n → read_as (driven (bit_at (7 - (m - t) % 8) y)) ≡ bit_at j (y % 256)
+  data_bit t y z l =
       let k : 7 - (m - t) % 8 ≡ n + 7 - m = omega arith in
-      rw k (read_as-driven _ ∙ sym (bit_at-mod j y (omega arith)))
+      rw k (read_as_driven _ ∙ sym (bit_at_mod j y (omega arith)))
 
-  cell-bit : (t y : ℕ) → t % 8 ≡ 0 →
+  cell_bit : (t y : ℕ) → t % 8 ≡ 0 →
       read_as (cond (leb t m) (driven (bit_at (7 - (m - t) % 8) y)) HighZ) ≡ bit_at j (cond (leb t n) (y % 256) 255)
-  cell-bit t y z = go _ (bit_at j) (data-bit t y z) dark
+  cell_bit t y z = go _ (bit_at j) (data_bit t y z) dark
     where
       go : (l : Level) (b : ℕ → Bool) → (t ≤ n → read_as l ≡ b (y % 256)) → true ≡ b 255 →
           read_as (cond (leb t m) l HighZ) ≡ b (cond (leb t n) (y % 256) 255)
       go l b p q = grind arith
 
-  id-bit : (y : ℕ) → 8 ≤ n →
+  id_bit : (y : ℕ) → 8 ≤ n →
       read_as (driven (bit_at (31 - min (m - 8) 31) y)) ≡ bit_at j (cond (leb n 32) (y / 2 ^ (32 - n) % 256) (255 * (y % 2)))
-  id-bit y e =
+  id_bit y e =
       cond_both (leb n 32) (y / 2 ^ (32 - n) % 256) (255 * (y % 2))
       (λ z. read_as (driven (bit_at (31 - min (m - 8) 31) y)) ≡ bit_at j z)
       (λ t.
       let l = leb-true n 32 t in
       let k : 31 - min (m - 8) 31 ≡ 32 - n + (n + 7 - m) = omega arith in
-      rw (read_as-driven, k, bit_at-mod j (y / 2 ^ (32 - n)) (omega arith), shr-shr y (32 - n) j))
+      rw (read_as_driven, k, bit_at_mod j (y / 2 ^ (32 - n)) (omega arith), shr-shr y (32 - n) j))
       (λ t.
       let l = leb-false n 32 t in
       let k : 31 - min (m - 8) 31 ≡ 0 = omega arith in
       let p : 255 * (y % 2) ≡ 255 * bit (bit_at 0 y) = grind arith in
-      rw (read_as-driven, k, p) (sym (bit_at-same (bit_at 0 y) j (omega arith))))
+      rw (read_as_driven, k, p) (sym (bit_at_same (bit_at 0 y) j (omega arith))))
 
-  command-bit : (s : Sheet) (c : Option Command) (r : Record) (a : ℕ) → 8 ≤ n →
+  command_bit : (s : Sheet) (c : Option Command) (r : Record) (a : ℕ) → 8 ≤ n →
       read_as (shown s c r m a) ≡ bit_at j (shown_byte s c r n a)
-  command-bit s (Some Rdsr) r a e = data-bit 8 (status r) refl e
-  command-bit s (Some Rdid) r a e = id-bit (identity s) e
-  command-bit s (Some Read) r a e = cell-bit 24 _ refl
-  command-bit s (Some Fstrd) r a e = cell-bit 32 _ refl
-  command-bit s (Some Wren) r a e = dark
-  command-bit s (Some Wrdi) r a e = dark
-  command-bit s (Some Wrsr) r a e = dark
-  command-bit s (Some Write) r a e = dark
-  command-bit s (Some Sleep) r a e = dark
-  command-bit s None r a e = dark
+  command_bit s (Some Rdsr) r a e = data_bit 8 (status r) refl e
+  command_bit s (Some Rdid) r a e = id_bit (identity s) e
+  command_bit s (Some Read) r a e = cell_bit 24 _ refl
+  command_bit s (Some Fstrd) r a e = cell_bit 32 _ refl
+  command_bit s (Some Wren) r a e = dark
+  command_bit s (Some Wrdi) r a e = dark
+  command_bit s (Some Wrsr) r a e = dark
+  command_bit s (Some Write) r a e = dark
+  command_bit s (Some Sleep) r a e = dark
+  command_bit s None r a e = dark
 
-  pub shown-bit : (s : Sheet) (code : ℕ) (r : Record) (a : ℕ) →
+  pub shown_bit : (s : Sheet) (code : ℕ) (r : Record) (a : ℕ) →
       let c : Option Command = command_at s n code in
       read_as (shown s c r m a) ≡ bit_at j (shown_byte s c r n a)
-  shown-bit s code r a =
+  shown_bit s code r a =
       cond_both (ltb n 8) None (command_of s code) (λ c. read_as (shown s c r m a) ≡ bit_at j (shown_byte s c r n a))
-      (λ e. dark) (λ e. command-bit s (command_of s code) r a (ltb-false n 8 e))
+      (λ e. dark) (λ e. command_bit s (command_of s code) r a (ltb-false n 8 e))
 
 -- ## The rules within a byte
 
 -- the cell counts only for data
-effect-cell : (s : Sheet) (c : Option Command) (wp : Bool) (r : Record) (n a a' x : ℕ) → (32 ≤ n → a ≡ a') →
+effect_cell : (s : Sheet) (c : Option Command) (wp : Bool) (r : Record) (n a a' x : ℕ) → (32 ≤ n → a ≡ a') →
     effect s c wp r n a x ≡ effect s c wp r n a' x
-effect-cell s c wp r n a a' x h = grind arith
+effect_cell s c wp r n a a' x h = grind arith
 
-shown-cell : (s : Sheet) (c : Option Command) (r : Record) (n a a' : ℕ) → (24 ≤ n → a ≡ a') → shown s c r n a ≡ shown s c r n a'
-shown-cell s c r n a a' h = grind arith
+shown_cell : (s : Sheet) (c : Option Command) (r : Record) (n a a' : ℕ) → (24 ≤ n → a ≡ a') → shown s c r n a ≡ shown s c r n a'
+shown_cell s c r n a a' h = grind arith
 
 -- only the last bit of a byte changes the record, and none the sleep mark
-effect-mid : (s : Sheet) (c : Option Command) (wp : Bool) (r : Record) (n a x : ℕ) → (n % 8 ≡ 0 → ⊥) → effect s c wp r n a x ≡ r
-effect-mid s c wp r n a x h = grind arith
+effect_mid : (s : Sheet) (c : Option Command) (wp : Bool) (r : Record) (n a x : ℕ) → (n % 8 ≡ 0 → ⊥) → effect s c wp r n a x ≡ r
+effect_mid s c wp r n a x h = grind arith
 
-effect-asleep : (s : Sheet) (c : Option Command) (wp : Bool) (r : Record) (n a x : ℕ) → (effect s c wp r n a x).asleep ≡ r.asleep
-effect-asleep s c wp r n a x = grind arith
+effect_asleep : (s : Sheet) (c : Option Command) (wp : Bool) (r : Record) (n a x : ℕ) → (effect s c wp r n a x).asleep ≡ r.asleep
+effect_asleep s c wp r n a x = grind arith
 
 -- ## The registers
 
@@ -132,15 +132,15 @@ pushes m p (b ∷ bs) = pushes m (push m b p) bs
 pushed : (m p : ℕ) (bs : List Bool) → pushes m (p % m) bs ≡ (p * 2 ^ length bs + number bs) % m
 pushed m p [] = ap (λ z. z % m) (omega arith)
 pushed m p (b ∷ bs) =
-    ap (λ z. pushes m z bs) (sym (double-mod p (bit b) m)) ∙ pushed m (2 * p + bit b) bs
+    ap (λ z. pushes m z bs) (sym (double_mod p (bit b) m)) ∙ pushed m (2 * p + bit b) bs
     ∙ ap (λ z. z % m) (go p (bit b) (length bs) (number bs))
   where
     go : (p b n z : ℕ) → (2 * p + b) * 2 ^ n + z ≡ p * 2 ^ suc n + (b * 2 ^ n + z)
     go p b n z = rw (add-mul (2 * p) b (2 ^ n), pow-succ' 2 n) (omega arith)
 
-pushed-byte : (m p x : ℕ) → x < 256 → pushes m p (bits_of 8 x) ≡ (256 * p + x) % m
-pushed-byte m p x h =
-    pushed m (2 * p + bit (bit_at 7 x)) (bits_of 7 x) ∙ ap (λ z. z % m) (omega (arith, number-bits_of 8 x))
+pushed_byte : (m p x : ℕ) → x < 256 → pushes m p (bits_of 8 x) ≡ (256 * p + x) % m
+pushed_byte m p x h =
+    pushed m (2 * p + bit (bit_at 7 x)) (bits_of 7 x) ∙ ap (λ z. z % m) (omega (arith, number_bits_of 8 x))
 
 -- what is kept after some bits of a byte, but not the last
 abbrev within : Sheet → Registers → List Bool → Registers
@@ -159,49 +159,49 @@ within_none : (s : Sheet) (k : Registers) → k ≡ within s k []
 within_none s k = same _ _ (omega arith) (grind arith) (grind arith) refl
 
 -- the bits of a data byte leave the cell to its last one
-within-place : (s : Sheet) (k : Registers) (bs : List Bool) → 32 ≤ cond (leb 40 k.count) 40 (k.count + 8) →
+within_place : (s : Sheet) (k : Registers) (bs : List Bool) → 32 ≤ cond (leb 40 k.count) 40 (k.count + 8) →
     (within s k bs).place ≡ k.place
-within-place s k bs h = grind arith
+within_place s k bs h = grind arith
 
 -- a bit that is not the last of its byte leaves the command, and what is shown in the byte
 module _ (s : Sheet) (k : Registers) (b : Bool) (h : k.count % 8 < 7) (g : k.count < 48) where
   abbrev next : Registers
   next = taken s k b
 
-  count-mid : next.count ≡ k.count + 1
-  count-mid = grind arith
+  count_mid : next.count ≡ k.count + 1
+  count_mid = grind arith
 
-  command-mid : command_at s next.count next.code ≡ command_at s k.count k.code
-  command-mid = go (command_of s) k.count k.code _ h
+  command_mid : command_at s next.count next.code ≡ command_at s k.count k.code
+  command_mid = go (command_of s) k.count k.code _ h
     where
       go : (f : ℕ → Option Command) (n x y : ℕ) → n % 8 < 7 →
           cond (ltb (cond (leb 47 n) 40 (n + 1)) 8) None (f (cond (ltb n 8) y x)) ≡ cond (ltb n 8) None (f x)
       go f n x y h = grind arith
 
-  place-mid : next.place ≡ (within s k (b ∷ [])).place
-  place-mid = go k.count (first_data (command_at s k.count k.code)) k.place _ _ h
+  place_mid : next.place ≡ (within s k (b ∷ [])).place
+  place_mid = go k.count (first_data (command_at s k.count k.code)) k.place _ _ h
     where
       go : (n f p x y : ℕ) → n % 8 < 7 →
           cond (ltb n 8) p (cond (ltb n 24) x (cond (turns f n) y p)) ≡ cond (ltb n 8) p (cond (ltb n 24) x p)
       go n f p x y h = grind arith
 
-  shown-mid : (r : Record) (n : ℕ) → n / 8 ≡ k.count / 8 →
+  shown_mid : (r : Record) (n : ℕ) → n / 8 ≡ k.count / 8 →
       shown s (command_at s next.count next.code) r n next.place ≡ shown s (command_at s k.count k.code) r n k.place
-  shown-mid r n e = rw (command-mid, place-mid) (shown-cell s _ r n _ _ (λ l. grind arith))
+  shown_mid r n e = rw (command_mid, place_mid) (shown_cell s _ r n _ _ (λ l. grind arith))
 
   within_more : (bs : List Bool) → within s next bs ≡ within s k (b ∷ bs)
-  within_more bs = rw place-mid (same _ _ (grind arith) (grind arith) (grind arith) refl)
+  within_more bs = rw place_mid (same _ _ (grind arith) (grind arith) (grind arith) refl)
 
 -- the last bit completes the byte
 module _ (s : Sheet) (k : Registers) (x : ℕ) (e : k.count % 8 ≡ 0) (f : k.count ≤ 40) (h : x < 256) where
   byte : (p : ℕ) → pushes 256 p (bits_of 8 x) ≡ x
-  byte p = pushed-byte 256 p x h ∙ omega arith
+  byte p = pushed_byte 256 p x h ∙ omega arith
 
-  within-last : taken s (within s k (take 7 (bits_of 8 x))) (bit_at 0 x) ≡ taken_byte s k x
-  within-last =
+  within_last : taken s (within s k (take 7 (bits_of 8 x))) (bit_at 0 x) ≡ taken_byte s k x
+  within_last =
       same _ _ (grind arith) (code k.count k.code _ _ (push 256 (bit_at 0 x)) e (byte k.code))
       (place k.count k.place _ _ _ _ (push (cells s) (bit_at 0 x)) (λ p. (p + 1) % cells s) e
-      (pushed-byte (cells s) k.place x h) (turn (command_of s) k.count k.code _ e))
+      (pushed_byte (cells s) k.place x h) (turn (command_of s) k.count k.code _ e))
       (byte k.shift)
     where
       code : (n c d y : ℕ) (f : ℕ → ℕ) → n % 8 ≡ 0 → f d ≡ y →
@@ -234,19 +234,19 @@ module _ (s : Sheet) (wp : Bool) (memory : List ℕ) (stored : ℕ) (latch : Boo
   after r k = record { rec = r; kept = k; so = falling bounded s r k }
 
   -- a bit within a byte changes the registers, and all but the last do no more
-  step-mid : (k : Registers) (l : Level) (b : Bool) → k.count % 8 < 7 → k.count < 48 →
+  step_mid : (k : Registers) (l : Level) (b : Bool) → k.count % 8 < 7 → k.count < 48 →
       step bounded s wp (at k l) b ≡ after rec (taken s k b)
-  step-mid k l b h g =
-      let p : (taken s k b).count % 8 ≡ 0 → ⊥ = λ e. omega (arith, count-mid s k b h g) in
-      ap (λ (r : Record). after r (taken s k b)) (effect-mid s _ wp rec _ _ _ p)
+  step_mid k l b h g =
+      let p : (taken s k b).count % 8 ≡ 0 → ⊥ = λ e. omega (arith, count_mid s k b h g) in
+      ap (λ (r : Record). after r (taken s k b)) (effect_mid s _ wp rec _ _ _ p)
 
-  steps-mid : (k : Registers) (l : Level) (bs : List Bool) (b : Bool) → k.count % 8 + length bs ≡ 7 → k.count < 48 →
+  steps_mid : (k : Registers) (l : Level) (bs : List Bool) (b : Bool) → k.count % 8 + length bs ≡ 7 → k.count < 48 →
       steps bounded s wp (at k l) (bs ++ b ∷ []) ≡ step bounded s wp (at (within s k bs) HighZ) b
-  steps-mid k l [] b h g = ap (λ (k : Registers). step bounded s wp (at k HighZ) b) (within_none s k)
-  steps-mid k l (c ∷ bs) b h g =
-      let p = count-mid s k c (omega arith) g in
-      ap (λ m. steps bounded s wp m (bs ++ b ∷ [])) (step-mid k l c (omega arith) g)
-      ∙ steps-mid (taken s k c) _ bs b (omega arith) (omega arith)
+  steps_mid k l [] b h g = ap (λ (k : Registers). step bounded s wp (at k HighZ) b) (within_none s k)
+  steps_mid k l (c ∷ bs) b h g =
+      let p = count_mid s k c (omega arith) g in
+      ap (λ m. steps bounded s wp m (bs ++ b ∷ [])) (step_mid k l c (omega arith) g)
+      ∙ steps_mid (taken s k c) _ bs b (omega arith) (omega arith)
       ∙ ap (λ (k : Registers). step bounded s wp (at k HighZ) b) (within_more s k c (omega arith) g bs)
 
   -- y is the byte that is shown behind n bits
@@ -255,48 +255,48 @@ module _ (s : Sheet) (wp : Bool) (memory : List ℕ) (stored : ℕ) (latch : Boo
       (m : ℕ) → n ≤ m → m < n + 8 →
       read_as (shown s (command_at s k.count k.code) rec m k.place) ≡ bit_at (n + 7 - m) y
 
-  reads-mid : (n y : ℕ) (k : Registers) (l : Level) (b : Bool) (bs : List Bool) →
+  reads_mid : (n y : ℕ) (k : Registers) (l : Level) (b : Bool) (bs : List Bool) →
       n % 8 ≡ 0 → n ≤ 40 → n ≤ k.count → k.count + length bs ≡ n + 7 → Shows n y k →
       reads bounded s wp (step bounded s wp (at k l) b) bs ≡ bits_of (length bs) y
-  reads-mid n y k l b [] e f g h q = refl
-  reads-mid n y k l b (c ∷ bs) e f g h q =
+  reads_mid n y k l b [] e f g h q = refl
+  reads_mid n y k l b (c ∷ bs) e f g h q =
       let u : k.count % 8 < 7 = omega arith in
       let k' : Registers = taken s k b in
-      let p = count-mid s k b u (omega arith) in
-      let q' : Shows n y k' = λ m v w. ap read_as (shown-mid s k b u (omega arith) rec m (omega arith)) ∙ q m v w in
-      ap (λ m. reads bounded s wp m (c ∷ bs)) (step-mid k l b u (omega arith))
+      let p = count_mid s k b u (omega arith) in
+      let q' : Shows n y k' = λ m v w. ap read_as (shown_mid s k b u (omega arith) rec m (omega arith)) ∙ q m v w in
+      ap (λ m. reads bounded s wp m (c ∷ bs)) (step_mid k l b u (omega arith))
       ∙ ap₂ ◌∷◌ (q' k'.count (omega arith) (omega arith) ∙ ap (λ i. bit_at i y) (omega arith))
-      (reads-mid n y k' (fall_kept s rec k') c bs e f (omega arith) (omega arith) q')
+      (reads_mid n y k' (fall_kept s rec k') c bs e f (omega arith) (omega arith) q')
 
   -- the byte is taken by its last bit
-  taken-awake : (k : Registers) (l : Level) (x : ℕ) → k.count % 8 ≡ 0 → k.count ≤ 40 → x < 256 →
+  taken_awake : (k : Registers) (l : Level) (x : ℕ) → k.count % 8 ≡ 0 → k.count ≤ 40 → x < 256 →
       steps bounded s wp (at k l) (bits_of 8 x) ≡ step_byte s wp (at k l) x
-  taken-awake k l x e f h =
+  taken_awake k l x e f h =
       let bs : List Bool = take 7 (bits_of 8 x) in
       let place : ℕ = (within s k bs).place in
       let next : Registers = taken_byte s k x in
       let c : Option Command = command_at s next.count next.code in
       let r : Record = record_after s wp rec k x in
-      steps-mid k l bs (bit_at 0 x) (omega arith) (omega arith)
+      steps_mid k l bs (bit_at 0 x) (omega arith) (omega arith)
       ∙ ap (λ (t : Registers). after (effect s (command_at s t.count t.code) wp rec t.count place t.shift) t)
-      (within-last s k x e f h)
-      ∙ ap (λ (r : Record). after r next) (effect-cell s c wp rec next.count place k.place x (within-place s k bs))
+      (within_last s k x e f h)
+      ∙ ap (λ (r : Record). after r next) (effect_cell s c wp rec next.count place k.place x (within_place s k bs))
       ∙ ap (λ (t : Bool). record { rec = r; kept = next; so = cond t HighZ (fall_kept s r next) })
-      (effect-asleep s c wp rec next.count k.place x)
+      (effect_asleep s c wp rec next.count k.place x)
 
   -- and one is read
-  read-awake : (k : Registers) (l : Level) (x : ℕ) → k.count % 8 ≡ 0 → k.count ≤ 40 →
+  read_awake : (k : Registers) (l : Level) (x : ℕ) → k.count % 8 ≡ 0 → k.count ≤ 40 →
       number (reads bounded s wp (at k l) (bits_of 8 x)) ≡ read_byte s (at k l)
-  read-awake k l x e f =
+  read_awake k l x e f =
       let n = k.count in
       let y = shown_byte s (command_at s n k.code) rec n k.place in
-      let q : Shows n y k = λ m g h. shown-bit n m e g h s k.code rec k.place in
-      ap (λ bs. number (read_as l ∷ bs)) (reads-mid n y k l (bit_at 7 x) (bits_of 7 x) e f (omega arith) (omega arith) q)
-      ∙ ap (λ z. bit (read_as l) * 128 + z) (number-bits_of 7 y) ∙ omega arith
+      let q : Shows n y k = λ m g h. shown_bit n m e g h s k.code rec k.place in
+      ap (λ bs. number (read_as l ∷ bs)) (reads_mid n y k l (bit_at 7 x) (bits_of 7 x) e f (omega arith) (omega arith) q)
+      ∙ ap (λ z. bit (read_as l) * 128 + z) (number_bits_of 7 y) ∙ omega arith
 
 -- asleep nothing is taken, and ones are read behind the first bit
-pub byte-at-once : ByteAtOnce
-byte-at-once s wp m x w h = go m.rec.asleep
+pub byte_at_once : ByteAtOnce
+byte_at_once s wp m x w h = go m.rec.asleep
   where
     e : m.kept.count % 8 ≡ 0
     e = grind arith
@@ -310,6 +310,6 @@ byte-at-once s wp m x w h = go m.rec.asleep
         (steps bounded s wp o (bits_of 8 x) ≡ step_byte s wp o x) × (number (reads bounded s wp o (bits_of 8 x)) ≡ read_byte s o)
     go true = (refl, omega arith)
     go false = (
-      taken-awake s wp m.rec.memory m.rec.stored m.rec.latch m.kept m.so x e f h,
-      read-awake s wp m.rec.memory m.rec.stored m.rec.latch m.kept m.so x e f,
+      taken_awake s wp m.rec.memory m.rec.stored m.rec.latch m.kept m.so x e f h,
+      read_awake s wp m.rec.memory m.rec.stored m.rec.latch m.kept m.so x e f,
     )

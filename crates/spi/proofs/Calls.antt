@@ -20,27 +20,27 @@ use Rattle.spi.specs.Buses.{Bus, moment_in, after, answer, run, answers}
 use Rattle.spi.specs.Lines.{AtLine, line_made, line_after, line_answer, line_run, line_answers}
 use Rattle.spi.specs.Meanings.{chip_at, made, meaning_of, next_read, AtRest}
 use Rattle.spi.specs.Laws.{ByteAtPins, Follows, Makes, LineIsBus, Same}
-use Rattle.spi.proofs.Clock.{over, still, parts, left_by, bits-puts, bits-over, bits-next}
+use Rattle.spi.proofs.Clock.{over, still, parts, left_by, bits_puts, bits_over, bits_next}
 
 pub unlike : false ≡ true → ⊥
 unlike e = search rules
 
 -- ## A byte
 
-pub byte-at-pins : (K : Keeping) → ByteAtPins K
-byte-at-pins K mode wp n s m so x e =
+pub byte_at_pins : (K : Keeping) → ByteAtPins K
+byte_at_pins K mode wp n s m so x e =
     let start = λ (l : Level). steps K s wp (record { rec = m.rec; kept = m.kept; so = l }) (bits_of 8 x) in
     let now = left_by K s mode wp n m.rec m.kept so (bits_of 8 x) in
-    let put = bits-puts K s mode wp n m.rec m.kept so (bits_of 8 x) ∙ ap (λ (l : Level). chip_at mode s (start l) now) e in
-    let read = bits-over K s mode wp n m.rec m.kept so (bits_of 8 x) ∙ ap (λ (l : Level). reads K s wp (record { rec = m.rec; kept = m.kept; so = l }) (bits_of 8 x)) e in
-    let next = subst (λ (l : Level). next_read K mode s (start l).rec (start l).kept now ≡ (start l).so) e (bits-next K s mode wp n m.rec m.kept so (bits_of 8 x)) in
+    let put = bits_puts K s mode wp n m.rec m.kept so (bits_of 8 x) ∙ ap (λ (l : Level). chip_at mode s (start l) now) e in
+    let read = bits_over K s mode wp n m.rec m.kept so (bits_of 8 x) ∙ ap (λ (l : Level). reads K s wp (record { rec = m.rec; kept = m.kept; so = l }) (bits_of 8 x)) e in
+    let next = subst (λ (l : Level). next_read K mode s (start l).rec (start l).kept now ≡ (start l).so) e (bits_next K s mode wp n m.rec m.kept so (bits_of 8 x)) in
     ((now, put, next), read)
 
 -- behind a fall SO shows what it was set to
-steps-settled : (K : Keeping) (s : Sheet) (wp : Bool) (m : Moment K.Session) (bits : List Bool) →
+steps_settled : (K : Keeping) (s : Sheet) (wp : Bool) (m : Moment K.Session) (bits : List Bool) →
     m.so ≡ falling K s m.rec m.kept → (steps K s wp m bits).so ≡ falling K s (steps K s wp m bits).rec (steps K s wp m bits).kept
-steps-settled K s wp m [] e = e
-steps-settled K s wp m (b ∷ bs) e = steps-settled K s wp _ bs refl
+steps_settled K s wp m [] e = e
+steps_settled K s wp m (b ∷ bs) e = steps_settled K s wp _ bs refl
 
 -- ## A blank chip
 
@@ -49,39 +49,39 @@ module _ (K : Keeping) (s : Sheet) (r : Record) (p : Pins K.Session) where
   blank = record { sheet = s; fitted = false; rec = r; pins = p }
 
   -- it changes nothing
-  pub blank-puts : (xs : List Sample) → puts K blank xs ≡ blank
-  blank-puts [] = refl
-  blank-puts (x ∷ xs) = blank-puts xs
+  pub blank_puts : (xs : List Sample) → puts K blank xs ≡ blank
+  blank_puts [] = refl
+  blank_puts (x ∷ xs) = blank_puts xs
 
   module _ (mode : Mode) (wp : Bool) (n : ℕ) where
     -- every bit is read as 1
-    blank-holds : (b : Bool) (i : ℕ) (ys : List Sample) →
+    blank_holds : (b : Bool) (i : ℕ) (ys : List Sample) →
         over K blank (rest mode) (holding mode wp i b ++ ys) ≡ over K blank (rest mode) ys
-    blank-holds b zero ys = refl
-    blank-holds b (suc i) ys = still (rest mode) _ _ ∙ blank-holds b i ys
+    blank_holds b zero ys = refl
+    blank_holds b (suc i) ys = still (rest mode) _ _ ∙ blank_holds b i ys
 
-    blank-releases : (b : Bool) (i : ℕ) (ys : List Sample) →
+    blank_releases : (b : Bool) (i : ℕ) (ys : List Sample) →
         over K blank (rest mode) (releasing mode wp i b ++ ys) ≡ over K blank (rest mode) ys
-    blank-releases b zero ys = refl
-    blank-releases b (suc i) ys = still (rest mode) _ _
+    blank_releases b zero ys = refl
+    blank_releases b (suc i) ys = still (rest mode) _ _
 
-    blank-clock : (other : Mode) (b : Bool) (ys : List Sample) →
+    blank_clock : (other : Mode) (b : Bool) (ys : List Sample) →
         over K blank (rest other) (clocking other wp b ++ ys) ≡ true ∷ over K blank (rest other) ys
-    blank-clock Mode0 b ys = refl
-    blank-clock Mode3 b ys = refl
+    blank_clock Mode0 b ys = refl
+    blank_clock Mode3 b ys = refl
 
     abbrev pub ones : List Bool → List Bool
     ones [] = []
     ones (b ∷ bs) = true ∷ ones bs
 
-    pub blank-over : (bs : List Bool) → over K blank (rest mode) (bits_samples mode wp n bs) ≡ ones bs
-    blank-over [] = refl
-    blank-over (b ∷ bs) =
+    pub blank_over : (bs : List Bool) → over K blank (rest mode) (bits_samples mode wp n bs) ≡ ones bs
+    blank_over [] = refl
+    blank_over (b ∷ bs) =
         ap (over K blank (rest mode)) (parts mode wp n b (bits_samples mode wp n bs))
-        ∙ blank-holds b n _
-        ∙ blank-releases b n _
-        ∙ blank-clock mode b (bits_samples mode wp n bs)
-        ∙ ap (λ (bits : List Bool). true ∷ bits) (blank-over bs)
+        ∙ blank_holds b n _
+        ∙ blank_releases b n _
+        ∙ blank_clock mode b (bits_samples mode wp n bs)
+        ∙ ap (λ (bits : List Bool). true ∷ bits) (blank_over bs)
 
 -- ## Calls
 
@@ -120,10 +120,10 @@ module _ (K : Keeping) (quiet : (s : Sheet) (r : Record) → K.shows s r K.begin
       byte : (x : ℕ) → Holds mode within (Exchange x)
       byte x =
           let m : Moment K.Session = moment_in K (meaning_of K wp within) k in
-          let did = byte-at-pins K mode wp n s m so x h in
+          let did = byte_at_pins K mode wp n s m so x h in
           let after : Moment K.Session = steps K s wp m (bits_of 8 x) in
           let now = did.0.0 in
-          let settled = did.0.2 ∙ steps-settled K s wp m (bits_of 8 x) refl in
+          let settled = did.0.2 ∙ steps_settled K s wp m (bits_of 8 x) refl in
           let back : Chip K.Session → AtLine K.Session = λ c. record { chip = c; in_session = true } in (
             subst (λ (c : Chip K.Session). AtRest K mode (back c)) (sym did.0.1) (λ e. (refl, refl, refl, settled)),
             ap (λ (c : Chip K.Session). meaning_of K wp (back c)) did.0.1,
@@ -136,22 +136,22 @@ module _ (K : Keeping) (quiet : (s : Sheet) (r : Record) → K.shows s r K.begin
       inside Deselect = (λ e. refl, refl, refl)
 
     -- a blank chip
-    blank-call : (mode : Mode) (r : Record) (p : Pins K.Session) (o : Bool) (x : BusCall) → Holds mode (line false r p o) x
-    blank-call mode r p true Select = (λ e. absurd (unlike e), refl, refl)
-    blank-call mode r p false Select = (λ e. absurd (unlike e), refl, refl)
-    blank-call mode r p false (Exchange x) = (λ e. absurd (unlike e), refl, refl)
-    blank-call mode r p true (Exchange x) =
-        let same = blank-puts K s r p (byte_samples mode wp n x) in
+    blank_call : (mode : Mode) (r : Record) (p : Pins K.Session) (o : Bool) (x : BusCall) → Holds mode (line false r p o) x
+    blank_call mode r p true Select = (λ e. absurd (unlike e), refl, refl)
+    blank_call mode r p false Select = (λ e. absurd (unlike e), refl, refl)
+    blank_call mode r p false (Exchange x) = (λ e. absurd (unlike e), refl, refl)
+    blank_call mode r p true (Exchange x) =
+        let same = blank_puts K s r p (byte_samples mode wp n x) in
         let back : Chip K.Session → AtLine K.Session = λ c. record { chip = c; in_session = true } in (
           subst (λ (c : Chip K.Session). AtRest K mode (back c)) (sym same) (λ e. absurd (unlike e)),
           ap (λ (c : Chip K.Session). meaning_of K wp (back c)) same,
-          ap (λ (bits : List Bool). Exchange (number bits)) (blank-over K s r p mode wp n (bits_of 8 x)),
+          ap (λ (bits : List Bool). Exchange (number bits)) (blank_over K s r p mode wp n (bits_of 8 x)),
         )
-    blank-call mode r p true Deselect = (λ e. absurd (unlike e), refl, refl)
-    blank-call mode r p false Deselect = (λ e. absurd (unlike e), refl, refl)
+    blank_call mode r p true Deselect = (λ e. absurd (unlike e), refl, refl)
+    blank_call mode r p false Deselect = (λ e. absurd (unlike e), refl, refl)
 
     any : (mode : Mode) (f : Bool) (r : Record) (p : Pins K.Session) (o : Bool) (x : BusCall) → AtRest K mode (line f r p o) → Holds mode (line f r p o) x
-    any mode false r p o x h = blank-call mode r p o x
+    any mode false r p o x h = blank_call mode r p o x
     any mode true r deselected false x h = away mode r x
     any mode true r deselected true x h = absurd (unlike (sym (h refl)))
     any mode true r (selected sck hold k so) false x h = absurd (unlike (h refl).0)
@@ -190,8 +190,8 @@ module _ (K : Keeping) (follow : Follows K) where
         t.1 ∙ ap (λ (b : Bus K.Session). run K b xs) f.1,
       )
 
-  pub line-is-bus : LineIsBus K
-  line-is-bus mode wp n c xs =
+  pub line_is_bus : LineIsBus K
+  line_is_bus mode wp n c xs =
       let made-so = makes K mode wp c in
       let t = lists mode wp n (line_made K mode wp c) xs made-so.0 in (
         t.0 ∙ ap (λ (b : Bus K.Session). answers K b xs) made-so.1,
@@ -206,8 +206,8 @@ module _ (K : Keeping) (follow : Follows K) where
         t.1 ∙ ap (λ (b : Bus K.Session). run K b xs) e ∙ sym u.1,
       )
 
-pub follows-whole : Follows whole
-follows-whole = follows whole (λ s r. refl)
+pub follows_whole : Follows whole
+follows_whole = follows whole (λ s r. refl)
 
-pub follows-bounded : Follows bounded
-follows-bounded = follows bounded (λ s r. refl)
+pub follows_bounded : Follows bounded
+follows_bounded = follows bounded (λ s r. refl)

@@ -52,76 +52,76 @@ module _ (K : Keeping) where
       at hold = chip_at r hold k l
 
       -- samples that hold change nothing but HOLD
-      holds-puts : (n : ℕ) (ys : List Sample) → puts K (at false) (holding mode wp n b ++ ys) ≡ puts K (at false) ys
-      holds-puts zero ys = refl
-      holds-puts (suc n) ys = holds-puts n ys
+      holds_puts : (n : ℕ) (ys : List Sample) → puts K (at false) (holding mode wp n b ++ ys) ≡ puts K (at false) ys
+      holds_puts zero ys = refl
+      holds_puts (suc n) ys = holds_puts n ys
 
-      holds-over : (n : ℕ) (ys : List Sample) → over (at false) (rest mode) (holding mode wp n b ++ ys) ≡ over (at false) (rest mode) ys
-      holds-over zero ys = refl
-      holds-over (suc n) ys = still (rest mode) _ _ ∙ holds-over n ys
+      holds_over : (n : ℕ) (ys : List Sample) → over (at false) (rest mode) (holding mode wp n b ++ ys) ≡ over (at false) (rest mode) ys
+      holds_over zero ys = refl
+      holds_over (suc n) ys = still (rest mode) _ _ ∙ holds_over n ys
 
       -- the samples that hold and the one that releases change nothing and read nothing
-      paused-puts : (n : ℕ) (ys : List Sample) →
+      paused_puts : (n : ℕ) (ys : List Sample) →
           puts K (at true) (holding mode wp n b ++ (releasing mode wp n b ++ ys)) ≡ puts K (at true) ys
-      paused-puts zero ys = refl
-      paused-puts (suc n) ys = holds-puts n (clock mode wp b (rest mode) true ∷ ys)
+      paused_puts zero ys = refl
+      paused_puts (suc n) ys = holds_puts n (clock mode wp b (rest mode) true ∷ ys)
 
-      paused-over : (n : ℕ) (ys : List Sample) →
+      paused_over : (n : ℕ) (ys : List Sample) →
           over (at true) (rest mode) (holding mode wp n b ++ (releasing mode wp n b ++ ys)) ≡ over (at true) (rest mode) ys
-      paused-over zero ys = refl
-      paused-over (suc n) ys =
-          still (rest mode) _ _ ∙ holds-over n (clock mode wp b (rest mode) true ∷ ys) ∙ still (rest mode) _ _
+      paused_over zero ys = refl
+      paused_over (suc n) ys =
+          still (rest mode) _ _ ∙ holds_over n (clock mode wp b (rest mode) true ∷ ys) ∙ still (rest mode) _ _
 
   abbrev rec : List ℕ → ℕ → Bool → Bool → Record
   rec m st w a = record { memory = m; stored = st; latch = w; asleep = a }
 
   -- SCK away from rest and back
   module _ (s : Sheet) (wp b : Bool) (m : List ℕ) (st : ℕ) (w : Bool) (k : K.Session) (l : Level) (ys : List Sample) where
-    abbrev after-bit : Mode → Record → Chip K.Session
-    after-bit mode r = chip_at s mode wp (rising K s wp r k b) true (keeping K s wp r k b) (left s mode wp mode r k b)
+    abbrev after_bit : Mode → Record → Chip K.Session
+    after_bit mode r = chip_at s mode wp (rising K s wp r k b) true (keeping K s wp r k b) (left s mode wp mode r k b)
 
-    clock-puts : (mode : Mode) (a : Bool) →
+    clock_puts : (mode : Mode) (a : Bool) →
         let r : Record = rec m st w a in
-        puts K (chip_at s mode wp r true k l) (clocking mode wp b ++ ys) ≡ puts K (after-bit mode r) ys
-    clock-puts Mode0 true = refl
-    clock-puts Mode0 false = refl
-    clock-puts Mode3 true = refl
-    clock-puts Mode3 false = refl
+        puts K (chip_at s mode wp r true k l) (clocking mode wp b ++ ys) ≡ puts K (after_bit mode r) ys
+    clock_puts Mode0 true = refl
+    clock_puts Mode0 false = refl
+    clock_puts Mode3 true = refl
+    clock_puts Mode3 false = refl
 
-    clock-over : (mode : Mode) (a : Bool) →
+    clock_over : (mode : Mode) (a : Bool) →
         let r : Record = rec m st w a in
         over (chip_at s mode wp r true k l) (rest mode) (clocking mode wp b ++ ys)
-        ≡ read_as (next_read K mode s r k l) ∷ over (after-bit mode r) (rest mode) ys
-    clock-over Mode0 true = refl
-    clock-over Mode0 false = refl
-    clock-over Mode3 true = refl
-    clock-over Mode3 false = refl
+        ≡ read_as (next_read K mode s r k l) ∷ over (after_bit mode r) (rest mode) ys
+    clock_over Mode0 true = refl
+    clock_over Mode0 false = refl
+    clock_over Mode3 true = refl
+    clock_over Mode3 false = refl
 
   module _ (s : Sheet) (mode : Mode) (wp : Bool) (n : ℕ) where
     -- one bit
-    bit-puts : (r : Record) (k : K.Session) (l : Level) (b : Bool) (ys : List Sample) →
+    bit_puts : (r : Record) (k : K.Session) (l : Level) (b : Bool) (ys : List Sample) →
         puts K (chip_at s mode wp r true k l) (bit_samples mode wp n b ++ ys)
         ≡ puts K (chip_at s mode wp (rising K s wp r k b) true (keeping K s wp r k b) (left s mode wp mode r k b)) ys
-    bit-puts r k l b ys =
+    bit_puts r k l b ys =
         ap (puts K (chip_at s mode wp r true k l)) (parts mode wp n b ys)
-        ∙ paused-puts s mode wp b r k l n (clocking mode wp b ++ ys)
-        ∙ clock-puts s wp b r.memory r.stored r.latch k l ys mode r.asleep
+        ∙ paused_puts s mode wp b r k l n (clocking mode wp b ++ ys)
+        ∙ clock_puts s wp b r.memory r.stored r.latch k l ys mode r.asleep
 
-    bit-over : (r : Record) (k : K.Session) (l : Level) (b : Bool) (ys : List Sample) →
+    bit_over : (r : Record) (k : K.Session) (l : Level) (b : Bool) (ys : List Sample) →
         over (chip_at s mode wp r true k l) (rest mode) (bit_samples mode wp n b ++ ys)
         ≡ read_as (next_read K mode s r k l)
         ∷ over (chip_at s mode wp (rising K s wp r k b) true (keeping K s wp r k b) (left s mode wp mode r k b)) (rest mode) ys
-    bit-over r k l b ys =
+    bit_over r k l b ys =
         ap (over (chip_at s mode wp r true k l) (rest mode)) (parts mode wp n b ys)
-        ∙ paused-over s mode wp b r k l n (clocking mode wp b ++ ys)
-        ∙ clock-over s wp b r.memory r.stored r.latch k l ys mode r.asleep
+        ∙ paused_over s mode wp b r k l n (clocking mode wp b ++ ys)
+        ∙ clock_over s wp b r.memory r.stored r.latch k l ys mode r.asleep
 
     -- it is a step
-    step-moment : (other : Mode) (r : Record) (k : K.Session) (l : Level) (b : Bool) →
+    step_moment : (other : Mode) (r : Record) (k : K.Session) (l : Level) (b : Bool) →
         step K s wp (moment_at s other wp r k l) b
         ≡ moment_at s other wp (rising K s wp r k b) (keeping K s wp r k b) (left s other wp other r k b)
-    step-moment Mode0 r k l b = refl
-    step-moment Mode3 r k l b = refl
+    step_moment Mode0 r k l b = refl
+    step_moment Mode3 r k l b = refl
 
     -- several bits
     abbrev pub left_by : Record → K.Session → Level → List Bool → Level
@@ -132,38 +132,38 @@ module _ (K : Keeping) where
     abbrev pub chip_in : Moment K.Session → Level → Chip K.Session
     chip_in m l = chip_at s mode wp m.rec true m.kept l
 
-    pub bits-puts : (r : Record) (k : K.Session) (l : Level) (bs : List Bool) →
+    pub bits_puts : (r : Record) (k : K.Session) (l : Level) (bs : List Bool) →
         puts K (chip_at s mode wp r true k l) (bits_samples mode wp n bs)
         ≡ chip_in (steps K s wp (moment_at s mode wp r k l) bs) (left_by r k l bs)
-    bits-puts r k l [] = refl
-    bits-puts r k l (b ∷ bs) =
+    bits_puts r k l [] = refl
+    bits_puts r k l (b ∷ bs) =
         let r' = rising K s wp r k b in
         let k' = keeping K s wp r k b in
         let l' = left s mode wp mode r k b in
-        bit-puts r k l b (bits_samples mode wp n bs)
-        ∙ bits-puts r' k' l' bs
-        ∙ ap (λ (m : Moment K.Session). chip_in (steps K s wp m bs) (left_by r' k' l' bs)) (sym (step-moment mode r k l b))
+        bit_puts r k l b (bits_samples mode wp n bs)
+        ∙ bits_puts r' k' l' bs
+        ∙ ap (λ (m : Moment K.Session). chip_in (steps K s wp m bs) (left_by r' k' l' bs)) (sym (step_moment mode r k l b))
 
-    pub bits-over : (r : Record) (k : K.Session) (l : Level) (bs : List Bool) →
+    pub bits_over : (r : Record) (k : K.Session) (l : Level) (bs : List Bool) →
         over (chip_at s mode wp r true k l) (rest mode) (bits_samples mode wp n bs) ≡ reads K s wp (moment_at s mode wp r k l) bs
-    bits-over r k l [] = refl
-    bits-over r k l (b ∷ bs) =
+    bits_over r k l [] = refl
+    bits_over r k l (b ∷ bs) =
         let r' = rising K s wp r k b in
         let k' = keeping K s wp r k b in
         let l' = left s mode wp mode r k b in
-        bit-over r k l b (bits_samples mode wp n bs)
+        bit_over r k l b (bits_samples mode wp n bs)
         ∙ ap (λ (bits : List Bool). read_as (next_read K mode s r k l) ∷ bits)
-        (bits-over r' k' l' bs ∙ ap (λ (m : Moment K.Session). reads K s wp m bs) (sym (step-moment mode r k l b)))
+        (bits_over r' k' l' bs ∙ ap (λ (m : Moment K.Session). reads K s wp m bs) (sym (step_moment mode r k l b)))
 
     -- what the next rise reads then
-    pub bits-next : (r : Record) (k : K.Session) (l : Level) (bs : List Bool) →
+    pub bits_next : (r : Record) (k : K.Session) (l : Level) (bs : List Bool) →
         let m : Moment K.Session = steps K s wp (moment_at s mode wp r k l) bs in
         next_read K mode s m.rec m.kept (left_by r k l bs) ≡ m.so
-    bits-next r k l [] = refl
-    bits-next r k l (b ∷ bs) =
+    bits_next r k l [] = refl
+    bits_next r k l (b ∷ bs) =
         let r' = rising K s wp r k b in
         let k' = keeping K s wp r k b in
         let l' = left s mode wp mode r k b in
         let e = λ (m : Moment K.Session).
         next_read K mode s (steps K s wp m bs).rec (steps K s wp m bs).kept (left_by r' k' l' bs) ≡ (steps K s wp m bs).so in
-        subst e (sym (step-moment mode r k l b)) (bits-next r' k' l' bs)
+        subst e (sym (step_moment mode r k l b)) (bits_next r' k' l' bs)

@@ -8,7 +8,7 @@ use Rattle.datasheet.specs.Levels.{read_as}
 use Rattle.datasheet.specs.Records.{Record, waking}
 use Rattle.datasheet.specs.Chips.{whole}
 use Rattle.datasheet.specs.Kept.{kept, taken, bounded}
-use Rattle.laws.proofs.Simulation.{kept-none, kept_more, rise-same, fall-same, end_same}
+use Rattle.laws.proofs.Simulation.{kept_none, kept_more, rise_same, fall_same, end_same}
 use Rattle.spi.specs.declared.bus_call.BusCall.{BusCall}
 use Rattle.spi.specs.declared.bus_call.BusCall.TheVariants.{Select, Exchange, Deselect}
 use Rattle.spi.specs.Steps.{Moment, falling, rising, keeping, step, steps, reads}
@@ -20,14 +20,14 @@ module _ (s : Sheet) (wp : Bool) where
   abbrev kept_moment : Moment (List Bool) → Moment Registers
   kept_moment m = record { rec = m.rec; kept = kept s m.kept; so = m.so }
 
-  falling-same : (r : Record) (bits : List Bool) → falling bounded s r (kept s bits) ≡ falling whole s r bits
-  falling-same r bits = ap (cond r.asleep HighZ) (fall-same s r bits)
+  falling_same : (r : Record) (bits : List Bool) → falling bounded s r (kept s bits) ≡ falling whole s r bits
+  falling_same r bits = ap (cond r.asleep HighZ) (fall_same s r bits)
 
-  rising-same : (r : Record) (bits : List Bool) (b : Bool) → rising bounded s wp r (kept s bits) b ≡ rising whole s wp r bits b
-  rising-same r bits b = ap (cond r.asleep r) (rise-same s wp r bits b)
+  rising_same : (r : Record) (bits : List Bool) (b : Bool) → rising bounded s wp r (kept s bits) b ≡ rising whole s wp r bits b
+  rising_same r bits b = ap (cond r.asleep r) (rise_same s wp r bits b)
 
-  keeping-same : (r : Record) (bits : List Bool) (b : Bool) → keeping bounded s wp r (kept s bits) b ≡ kept s (keeping whole s wp r bits b)
-  keeping-same r bits b = go r.asleep
+  keeping_same : (r : Record) (bits : List Bool) (b : Bool) → keeping bounded s wp r (kept s bits) b ≡ kept s (keeping whole s wp r bits b)
+  keeping_same r bits b = go r.asleep
     where
       go : (a : Bool) → cond a (kept s bits) (taken s (kept s bits) b) ≡ kept s (cond a bits (bits ++ b ∷ []))
       go true = refl
@@ -36,16 +36,16 @@ module _ (s : Sheet) (wp : Bool) where
   step_same : (m : Moment (List Bool)) (b : Bool) → step bounded s wp (kept_moment m) b ≡ kept_moment (step whole s wp m b)
   step_same m b =
       ap₂ (λ (r : Record) (k : Registers). record { rec = r; kept = k; so = falling bounded s r k })
-      (rising-same m.rec m.kept b) (keeping-same m.rec m.kept b)
+      (rising_same m.rec m.kept b) (keeping_same m.rec m.kept b)
       ∙ (λ i. record {
         rec = rising whole s wp m.rec m.kept b;
         kept = kept s (keeping whole s wp m.rec m.kept b);
-        so = falling-same (rising whole s wp m.rec m.kept b) (keeping whole s wp m.rec m.kept b) i;
+        so = falling_same (rising whole s wp m.rec m.kept b) (keeping whole s wp m.rec m.kept b) i;
       })
 
-  steps-same : (m : Moment (List Bool)) (bs : List Bool) → steps bounded s wp (kept_moment m) bs ≡ kept_moment (steps whole s wp m bs)
-  steps-same m [] = refl
-  steps-same m (b ∷ bs) = ap (λ (q : Moment Registers). steps bounded s wp q bs) (step_same m b) ∙ steps-same (step whole s wp m b) bs
+  steps_same : (m : Moment (List Bool)) (bs : List Bool) → steps bounded s wp (kept_moment m) bs ≡ kept_moment (steps whole s wp m bs)
+  steps_same m [] = refl
+  steps_same m (b ∷ bs) = ap (λ (q : Moment Registers). steps bounded s wp q bs) (step_same m b) ∙ steps_same (step whole s wp m b) bs
 
   reads_same : (m : Moment (List Bool)) (bs : List Bool) → reads bounded s wp (kept_moment m) bs ≡ reads whole s wp m bs
   reads_same m [] = refl
@@ -63,45 +63,45 @@ module _ (s : Sheet) (wp : Bool) where
     abbrev moment : Moment (List Bool)
     moment = moment_in whole (bus true r (Some bits)) bits
 
-    moment-same : moment_in bounded (bus true r (Some (kept s bits))) (kept s bits) ≡ kept_moment moment
-    moment-same i = record { rec = r; kept = kept s bits; so = falling-same r bits i }
+    moment_same : moment_in bounded (bus true r (Some (kept s bits))) (kept s bits) ≡ kept_moment moment
+    moment_same i = record { rec = r; kept = kept s bits; so = falling_same r bits i }
 
-    took-same : (x : ℕ) →
+    took_same : (x : ℕ) →
         after bounded (bus true r (Some (kept s bits))) (Exchange x) ≡ kept_bus (after whole (bus true r (Some bits)) (Exchange x))
-    took-same x =
-        ap (λ (m : Moment Registers). bus true (steps bounded s wp m (bits_of 8 x)).rec (Some (steps bounded s wp m (bits_of 8 x)).kept)) moment-same
-        ∙ ap (λ (m : Moment Registers). bus true m.rec (Some m.kept)) (steps-same moment (bits_of 8 x))
+    took_same x =
+        ap (λ (m : Moment Registers). bus true (steps bounded s wp m (bits_of 8 x)).rec (Some (steps bounded s wp m (bits_of 8 x)).kept)) moment_same
+        ∙ ap (λ (m : Moment Registers). bus true m.rec (Some m.kept)) (steps_same moment (bits_of 8 x))
 
-    read-same : (x : ℕ) → answer bounded (bus true r (Some (kept s bits))) (Exchange x) ≡ answer whole (bus true r (Some bits)) (Exchange x)
-    read-same x =
-        ap (λ (m : Moment Registers). Exchange (number (reads bounded s wp m (bits_of 8 x)))) moment-same
+    read_same : (x : ℕ) → answer bounded (bus true r (Some (kept s bits))) (Exchange x) ≡ answer whole (bus true r (Some bits)) (Exchange x)
+    read_same x =
+        ap (λ (m : Moment Registers). Exchange (number (reads bounded s wp m (bits_of 8 x)))) moment_same
         ∙ ap (λ (bs : List Bool). Exchange (number bs)) (reads_same moment (bits_of 8 x))
 
   after_same : (f : Bool) (r : Record) (o : Option (List Bool)) (x : BusCall) →
       after bounded (kept_bus (bus f r o)) x ≡ kept_bus (after whole (bus f r o) x)
-  after_same f r None Select = ap (λ (k : Registers). bus f r (Some k)) (sym (kept-none s))
+  after_same f r None Select = ap (λ (k : Registers). bus f r (Some k)) (sym (kept_none s))
   after_same f r (Some bits) Select = refl
   after_same f r None (Exchange x) = refl
-  after_same true r (Some bits) (Exchange x) = took-same r bits x
+  after_same true r (Some bits) (Exchange x) = took_same r bits x
   after_same false r (Some bits) (Exchange x) = refl
   after_same f r None Deselect = refl
   after_same true r (Some bits) Deselect = ap (λ (q : Record). bus true (cond r.asleep (waking r) q) None) (end_same s r bits)
   after_same false r (Some bits) Deselect = refl
 
-  answer-same : (f : Bool) (r : Record) (o : Option (List Bool)) (x : BusCall) →
+  answer_same : (f : Bool) (r : Record) (o : Option (List Bool)) (x : BusCall) →
       answer bounded (kept_bus (bus f r o)) x ≡ answer whole (bus f r o) x
-  answer-same f r o Select = refl
-  answer-same f r None (Exchange x) = refl
-  answer-same true r (Some bits) (Exchange x) = read-same r bits x
-  answer-same false r (Some bits) (Exchange x) = refl
-  answer-same f r o Deselect = refl
+  answer_same f r o Select = refl
+  answer_same f r None (Exchange x) = refl
+  answer_same true r (Some bits) (Exchange x) = read_same r bits x
+  answer_same false r (Some bits) (Exchange x) = refl
+  answer_same f r o Deselect = refl
 
-pub bus-keeps-enough : BusKeepsEnough
-bus-keeps-enough b [] = (refl, refl)
-bus-keeps-enough b (x ∷ xs) =
-    let t = bus-keeps-enough (after whole b x) xs in
+pub bus_keeps_enough : BusKeepsEnough
+bus_keeps_enough b [] = (refl, refl)
+bus_keeps_enough b (x ∷ xs) =
+    let t = bus_keeps_enough (after whole b x) xs in
     let e = after_same b.sheet b.wp b.fitted b.rec b.session x in (
-      ap₂ (λ (a : BusCall) (as' : List BusCall). a ∷ as') (answer-same b.sheet b.wp b.fitted b.rec b.session x)
+      ap₂ (λ (a : BusCall) (as' : List BusCall). a ∷ as') (answer_same b.sheet b.wp b.fitted b.rec b.session x)
           (ap (λ (d : Bus Registers). answers bounded d xs) e ∙ t.0),
       ap (λ (d : Bus Registers). run bounded d xs) e ∙ t.1,
     )

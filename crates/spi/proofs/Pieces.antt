@@ -7,7 +7,7 @@ use Rattle.datasheet.specs.Bits.{bit, bit_at, bits_of, number}
 use Rattle.datasheet.specs.Levels.{read_as}
 use Rattle.datasheet.specs.Chips.{Keeping}
 use Rattle.datasheet.specs.Calls.{Chip, so, put}
-use Rattle.laws.proofs.Bits.{length-bits_of}
+use Rattle.laws.proofs.Bits.{length_bits_of}
 use Rattle.spi.specs.declared.mode.Mode.{Mode}
 use Rattle.spi.specs.declared.mode.Mode.TheVariants.{Mode0, Mode3}
 use Rattle.spi.specs.Puts.{tracing, puts}
@@ -17,45 +17,45 @@ use Rattle.spi.proofs.Clock.{over, still}
 -- ## What they lead to
 
 module _ {T : Type 0} (f : T → Sample → T) where
-  pub tracing-append : (t : T) (xs ys : List Sample) → tracing f t (xs ++ ys) ≡ tracing f (tracing f t xs) ys
-  tracing-append t [] ys = refl
-  tracing-append t (x ∷ xs) ys = tracing-append (f t x) xs ys
+  pub tracing_append : (t : T) (xs ys : List Sample) → tracing f t (xs ++ ys) ≡ tracing f (tracing f t xs) ys
+  tracing_append t [] ys = refl
+  tracing_append t (x ∷ xs) ys = tracing_append (f t x) xs ys
 
   module _ (mode : Mode) (wp b : Bool) (t : T) where
     -- before the clock of a bit
     abbrev pub paused : ℕ → T
     paused n = tracing f t (holding mode wp n b ++ releasing mode wp n b)
 
-    pub bit-parts : (n : ℕ) → tracing f t (bit_samples mode wp n b) ≡ tracing f (paused n) (clocking mode wp b)
-    bit-parts n =
+    pub bit_parts : (n : ℕ) → tracing f t (bit_samples mode wp n b) ≡ tracing f (paused n) (clocking mode wp b)
+    bit_parts n =
         ap (tracing f t) (sym (append_assoc (holding mode wp n b) (releasing mode wp n b) (clocking mode wp b)))
-        ∙ tracing-append t (holding mode wp n b ++ releasing mode wp n b) (clocking mode wp b)
+        ∙ tracing_append t (holding mode wp n b ++ releasing mode wp n b) (clocking mode wp b)
 
     -- samples that hold, put one by one: i of n
-    pub holding-more : (n i : ℕ) → i < n →
+    pub holding_more : (n i : ℕ) → i < n →
         tracing f t (holding mode wp (n - i) b) ≡ tracing f (f t (clock mode wp b (rest mode) false)) (holding mode wp (n - (i + 1)) b)
-    holding-more n i h =
+    holding_more n i h =
         let e : n - i ≡ suc (n - (i + 1)) = omega arith in
         ap (λ (k : ℕ). tracing f t (holding mode wp k b)) e
 
-    pub holding-all : (n i : ℕ) → n ≤ i → tracing f t (holding mode wp (n - i) b) ≡ t
-    holding-all n i h =
+    pub holding_all : (n i : ℕ) → n ≤ i → tracing f t (holding mode wp (n - i) b) ≡ t
+    holding_all n i h =
         let e : n - i ≡ 0 = omega arith in
         ap (λ (k : ℕ). tracing f t (holding mode wp k b)) e
 
     pub released : (n : ℕ) → 0 < n → f (tracing f t (holding mode wp n b)) (clock mode wp b (rest mode) true) ≡ paused n
     released zero h = absurd (omega arith)
-    released (suc n) h = sym (tracing-append t (holding mode wp (suc n) b) (releasing mode wp (suc n) b))
+    released (suc n) h = sym (tracing_append t (holding mode wp (suc n) b) (releasing mode wp (suc n) b))
 
-    pub not-held : (n : ℕ) → n ≤ 0 → t ≡ paused n
-    not-held zero h = refl
-    not-held (suc n) h = absurd (omega arith)
+    pub not_held : (n : ℕ) → n ≤ 0 → t ≡ paused n
+    not_held zero h = refl
+    not_held (suc n) h = absurd (omega arith)
 
   -- bits, put one by one
-  pub bits-more : (mode : Mode) (wp : Bool) (n : ℕ) (t u : T) (i x : ℕ) → u ≡ tracing f t (bit_samples mode wp n (bit_at i x)) →
+  pub bits_more : (mode : Mode) (wp : Bool) (n : ℕ) (t u : T) (i x : ℕ) → u ≡ tracing f t (bit_samples mode wp n (bit_at i x)) →
       tracing f t (bits_samples mode wp n (bits_of (suc i) x)) ≡ tracing f u (bits_samples mode wp n (bits_of i x))
-  bits-more mode wp n t u i x e =
-      tracing-append t (bit_samples mode wp n (bit_at i x)) (bits_samples mode wp n (bits_of i x))
+  bits_more mode wp n t u i x e =
+      tracing_append t (bit_samples mode wp n (bit_at i x)) (bits_samples mode wp n (bits_of i x))
       ∙ ap (λ (v : T). tracing f v (bits_samples mode wp n (bits_of i x))) (sym e)
 
 -- ## What is read in them
@@ -65,74 +65,74 @@ abbrev last_sck : Bool → List Sample → Bool
 last_sck sck [] = sck
 last_sck sck (x ∷ xs) = last_sck x.sck xs
 
-last-append : (sck : Bool) (xs ys : List Sample) → last_sck sck (xs ++ ys) ≡ last_sck (last_sck sck xs) ys
-last-append sck [] ys = refl
-last-append sck (x ∷ xs) ys = last-append x.sck xs ys
+last_append : (sck : Bool) (xs ys : List Sample) → last_sck sck (xs ++ ys) ≡ last_sck (last_sck sck xs) ys
+last_append sck [] ys = refl
+last_append sck (x ∷ xs) ys = last_append x.sck xs ys
 
-read-append : (sck new : Bool) (l : Level) (as' bs : List Bool) → read_at sck new l (as' ++ bs) ≡ read_at sck new l as' ++ bs
-read-append false true l as' bs = refl
-read-append false false l as' bs = refl
-read-append true true l as' bs = refl
-read-append true false l as' bs = refl
+read_append : (sck new : Bool) (l : Level) (as' bs : List Bool) → read_at sck new l (as' ++ bs) ≡ read_at sck new l as' ++ bs
+read_append false true l as' bs = refl
+read_append false false l as' bs = refl
+read_append true true l as' bs = refl
+read_append true false l as' bs = refl
 
 module _ (K : Keeping) where
-  over-append : (c : Chip K.Session) (sck : Bool) (xs ys : List Sample) →
+  over_append : (c : Chip K.Session) (sck : Bool) (xs ys : List Sample) →
       over K c sck (xs ++ ys) ≡ over K c sck xs ++ over K (puts K c xs) (last_sck sck xs) ys
-  over-append c sck [] ys = refl
-  over-append c sck (x ∷ xs) ys =
-      ap (read_at sck x.sck (so (put K c x))) (over-append (put K c x) x.sck xs ys)
-      ∙ read-append sck x.sck (so (put K c x)) (over K (put K c x) x.sck xs) (over K (puts K (put K c x) xs) (last_sck x.sck xs) ys)
+  over_append c sck [] ys = refl
+  over_append c sck (x ∷ xs) ys =
+      ap (read_at sck x.sck (so (put K c x))) (over_append (put K c x) x.sck xs ys)
+      ∙ read_append sck x.sck (so (put K c x)) (over K (put K c x) x.sck xs) (over K (puts K (put K c x) xs) (last_sck x.sck xs) ys)
 
   module _ (mode : Mode) (wp : Bool) where
     -- a bit ends with SCK at rest
     last_rest : (n : ℕ) (b : Bool) → last_sck (rest mode) (bit_samples mode wp n b) ≡ rest mode
     last_rest n b =
-        last-append (rest mode) (holding mode wp n b) (releasing mode wp n b ++ clocking mode wp b)
-        ∙ last-append (last_sck (rest mode) (holding mode wp n b)) (releasing mode wp n b) (clocking mode wp b)
+        last_append (rest mode) (holding mode wp n b) (releasing mode wp n b ++ clocking mode wp b)
+        ∙ last_append (last_sck (rest mode) (holding mode wp n b)) (releasing mode wp n b) (clocking mode wp b)
 
     -- what is read in a bit and in what follows it
-    pub over-bit : (c : Chip K.Session) (n : ℕ) (b : Bool) (ys : List Sample) →
+    pub over_bit : (c : Chip K.Session) (n : ℕ) (b : Bool) (ys : List Sample) →
         over K c (rest mode) (bit_samples mode wp n b ++ ys)
         ≡ over K c (rest mode) (bit_samples mode wp n b) ++ over K (puts K c (bit_samples mode wp n b)) (rest mode) ys
-    over-bit c n b ys =
-        over-append c (rest mode) (bit_samples mode wp n b) ys
+    over_bit c n b ys =
+        over_append c (rest mode) (bit_samples mode wp n b) ys
         ∙ ap (λ (t : Bool). over K c (rest mode) (bit_samples mode wp n b) ++ over K (puts K c (bit_samples mode wp n b)) t ys) (last_rest n b)
 
     -- the samples that hold read nothing
-    holding-over : (c : Chip K.Session) (n : ℕ) (b : Bool) (ys : List Sample) →
+    holding_over : (c : Chip K.Session) (n : ℕ) (b : Bool) (ys : List Sample) →
         over K c (rest mode) (holding mode wp n b ++ ys) ≡ over K (puts K c (holding mode wp n b)) (rest mode) ys
-    holding-over c zero b ys = refl
-    holding-over c (suc n) b ys = still (rest mode) _ _ ∙ holding-over (put K c (clock mode wp b (rest mode) false)) n b ys
+    holding_over c zero b ys = refl
+    holding_over c (suc n) b ys = still (rest mode) _ _ ∙ holding_over (put K c (clock mode wp b (rest mode) false)) n b ys
 
-    releasing-over : (c : Chip K.Session) (n : ℕ) (b : Bool) (ys : List Sample) →
+    releasing_over : (c : Chip K.Session) (n : ℕ) (b : Bool) (ys : List Sample) →
         over K c (rest mode) (releasing mode wp n b ++ ys) ≡ over K (puts K c (releasing mode wp n b)) (rest mode) ys
-    releasing-over c zero b ys = refl
-    releasing-over c (suc n) b ys = still (rest mode) _ _
+    releasing_over c zero b ys = refl
+    releasing_over c (suc n) b ys = still (rest mode) _ _
 
-    paused-over : (c : Chip K.Session) (n : ℕ) (b : Bool) →
+    paused_over : (c : Chip K.Session) (n : ℕ) (b : Bool) →
         over K c (rest mode) (bit_samples mode wp n b) ≡ over K (paused (put K) mode wp b c n) (rest mode) (clocking mode wp b)
-    paused-over c n b =
-        holding-over c n b (releasing mode wp n b ++ clocking mode wp b)
-        ∙ releasing-over (puts K c (holding mode wp n b)) n b (clocking mode wp b)
-        ∙ ap (λ (d : Chip K.Session). over K d (rest mode) (clocking mode wp b)) (sym (tracing-append (put K) c (holding mode wp n b) (releasing mode wp n b)))
+    paused_over c n b =
+        holding_over c n b (releasing mode wp n b ++ clocking mode wp b)
+        ∙ releasing_over (puts K c (holding mode wp n b)) n b (clocking mode wp b)
+        ∙ ap (λ (d : Chip K.Session). over K d (rest mode) (clocking mode wp b)) (sym (tracing_append (put K) c (holding mode wp n b) (releasing mode wp n b)))
 
-  clock-over : (mode : Mode) (wp : Bool) (c : Chip K.Session) (b : Bool) →
+  clock_over : (mode : Mode) (wp : Bool) (c : Chip K.Session) (b : Bool) →
       over K c (rest mode) (clocking mode wp b) ≡ read_as (clock_shows K mode wp c b) ∷ []
-  clock-over Mode0 wp c b = refl
-  clock-over Mode3 wp c b = refl
+  clock_over Mode0 wp c b = refl
+  clock_over Mode3 wp c b = refl
 
-  pub bit-read : (mode : Mode) (wp : Bool) (c : Chip K.Session) (n : ℕ) (b : Bool) →
+  pub bit_read : (mode : Mode) (wp : Bool) (c : Chip K.Session) (n : ℕ) (b : Bool) →
       over K c (rest mode) (bit_samples mode wp n b) ≡ read_as (clock_shows K mode wp (paused (put K) mode wp b c n) b) ∷ []
-  bit-read mode wp c n b = paused-over mode wp c n b ∙ clock-over mode wp (paused (put K) mode wp b c n) b
+  bit_read mode wp c n b = paused_over mode wp c n b ∙ clock_over mode wp (paused (put K) mode wp b c n) b
 
   -- as many bits are read as are put
-  pub bits-length : (mode : Mode) (wp : Bool) (n : ℕ) (c : Chip K.Session) (bs : List Bool) →
+  pub bits_length : (mode : Mode) (wp : Bool) (n : ℕ) (c : Chip K.Session) (bs : List Bool) →
       length (over K c (rest mode) (bits_samples mode wp n bs)) ≡ length bs
-  bits-length mode wp n c [] = refl
-  bits-length mode wp n c (b ∷ bs) =
-      ap length (over-bit mode wp c n b (bits_samples mode wp n bs))
-      ∙ ap (λ (xs : List Bool). length (xs ++ over K (puts K c (bit_samples mode wp n b)) (rest mode) (bits_samples mode wp n bs))) (bit-read mode wp c n b)
-      ∙ ap suc (bits-length mode wp n (puts K c (bit_samples mode wp n b)) bs)
+  bits_length mode wp n c [] = refl
+  bits_length mode wp n c (b ∷ bs) =
+      ap length (over_bit mode wp c n b (bits_samples mode wp n bs))
+      ∙ ap (λ (xs : List Bool). length (xs ++ over K (puts K c (bit_samples mode wp n b)) (rest mode) (bits_samples mode wp n bs))) (bit_read mode wp c n b)
+      ∙ ap suc (bits_length mode wp n (puts K c (bit_samples mode wp n b)) bs)
 
   module _ (mode : Mode) (wp : Bool) (n : ℕ) (c d : Chip K.Session) (i x : ℕ) where
     abbrev left : ℕ → List Sample
@@ -145,6 +145,6 @@ module _ (K : Keeping) where
     pub read_more : (r : Bool) → d ≡ puts K c first → over K c (rest mode) first ≡ r ∷ [] →
         number (over K c (rest mode) (left (suc i))) ≡ bit r * 2 ^ i + number (over K d (rest mode) (left i))
     read_more r e q =
-        ap number (over-bit mode wp c n (bit_at i x) (left i))
+        ap number (over_bit mode wp c n (bit_at i x) (left i))
         ∙ ap₂ (λ (y : Chip K.Session) (bs : List Bool). number (bs ++ over K y (rest mode) (left i))) (sym e) q
-        ∙ ap (λ (k : ℕ). bit r * 2 ^ k + number (over K d (rest mode) (left i))) (bits-length mode wp n d (bits_of i x) ∙ length-bits_of i x)
+        ∙ ap (λ (k : ℕ). bit r * 2 ^ k + number (over K d (rest mode) (left i))) (bits_length mode wp n d (bits_of i x) ∙ length_bits_of i x)

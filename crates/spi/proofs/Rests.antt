@@ -7,6 +7,6 @@ use Rattle.datasheet.specs.Chips.{Keeping, Pins, deselected, selected}
 use Rattle.spi.specs.declared.mode.Mode.{Mode}
 use Rattle.spi.specs.Meanings.{PinsAt}
 
-pub pins-at-prop : (K : Keeping) (mode : Mode) (s : Sheet) (r : Record) (p : Pins K.Session) (o : Bool) → IsProp (PinsAt K mode s r p o)
-pins-at-prop K mode s r deselected o = hlevel props
-pins-at-prop K mode s r (selected sck hold k so) o = hlevel props
+pub pins_at_prop : (K : Keeping) (mode : Mode) (s : Sheet) (r : Record) (p : Pins K.Session) (o : Bool) → IsProp (PinsAt K mode s r p o)
+pins_at_prop K mode s r deselected o = hlevel props
+pins_at_prop K mode s r (selected sck hold k so) o = hlevel props

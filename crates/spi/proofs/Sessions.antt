@@ -21,6 +21,6 @@ module _ (K : Keeping) (mode : Mode) (wp : Bool) (n : ℕ) where
       ap (λ (ys : List Sample). byte_samples mode wp n x ++ ys) (bytes_left (puts K c (byte_samples mode wp n x)) xs)
       ∙ sym (append_assoc (byte_samples mode wp n x) (bytes_samples mode wp n xs) (rises mode wp ∷ []))
 
-pub session-samples : (K : Keeping) → SessionSamples K
-session-samples K mode wp n c xs =
+pub session_samples : (K : Keeping) → SessionSamples K
+session_samples K mode wp n c xs =
     ap (λ (ys : List Sample). falls mode wp ∷ ys) (bytes_left K mode wp n (put K (put K c (rises mode wp)) (falls mode wp)) xs)

@@ -18,7 +18,7 @@ use Rattle.spi.specs.Lines.{AtLine, byte_read, line_after, line_answer, line_run
 use Rattle.spi.specs.Meanings.{kept_of, meaning_of, AtRest}
 use Rattle.spi.specs.Stepping.{stepped_by, step_read, bytes_after, bytes_answer, bytes_run, bytes_answers}
 use Rattle.spi.specs.Laws.{Bytes, BothBuses}
-use Rattle.spi.proofs.Calls.{unlike, blank-puts, blank-over, follows-bounded, same}
+use Rattle.spi.proofs.Calls.{unlike, blank_puts, blank_over, follows_bounded, same}
 use Rattle.spi.proofs.Aligned.{byte_leaves_whole}
 
 module _ (s : Sheet) (r : Record) (wp : Bool) (x : ℕ) where
@@ -30,15 +30,15 @@ module _ (s : Sheet) (r : Record) (wp : Bool) (x : ℕ) where
       (stepped_by c wp x ≡ puts bounded c (byte_samples Mode0 wp 0 x))
       × (step_read c wp x ≡ byte_read bounded Mode0 wp c (byte_samples Mode0 wp 0 x))
 
-  blank-steps : (p : Pins Registers) → Steps (line false p true).chip
-  blank-steps deselected =
-      (sym (blank-puts bounded s r deselected (byte_samples Mode0 wp 0 x)), sym (ap number (blank-over bounded s r deselected Mode0 wp 0 (bits_of 8 x))))
-  blank-steps (selected sck hold k so) =
-      (sym (blank-puts bounded s r (selected sck hold k so) (byte_samples Mode0 wp 0 x)), sym (ap number (blank-over bounded s r (selected sck hold k so) Mode0 wp 0 (bits_of 8 x))))
+  blank_steps : (p : Pins Registers) → Steps (line false p true).chip
+  blank_steps deselected =
+      (sym (blank_puts bounded s r deselected (byte_samples Mode0 wp 0 x)), sym (ap number (blank_over bounded s r deselected Mode0 wp 0 (bits_of 8 x))))
+  blank_steps (selected sck hold k so) =
+      (sym (blank_puts bounded s r (selected sck hold k so) (byte_samples Mode0 wp 0 x)), sym (ap number (blank_over bounded s r (selected sck hold k so) Mode0 wp 0 (bits_of 8 x))))
 
   any : (f : Bool) (p : Pins Registers) (o : Bool) → AtRest bounded Mode0 (line f p o) → whole_bytes (kept_of bounded (line f p o).chip) ≡ true → o ≡ true →
       Steps (line f p o).chip
-  any false p o rest whole e = blank-steps p
+  any false p o rest whole e = blank_steps p
   any true deselected o rest whole e = absurd (unlike (sym (rest refl) ∙ e))
   any true (selected sck hold k so) o rest whole e =
       let at = rest refl in
@@ -91,27 +91,27 @@ module _ (wp : Bool) where
       by s true r (selected sck hold k so) true Deselect small rest whole = (refl, refl, refl)
       by s f r p false Deselect small rest whole = (refl, refl, whole)
 
-  first-byte : (x : BusCall) (xs : List BusCall) → Bytes (x ∷ xs) → Bytes (x ∷ []) × Bytes xs
-  first-byte Select xs h = (tt, h)
-  first-byte (Exchange x) xs h = ((h.0, tt), h.1)
-  first-byte Deselect xs h = (tt, h)
+  first_byte : (x : BusCall) (xs : List BusCall) → Bytes (x ∷ xs) → Bytes (x ∷ []) × Bytes xs
+  first_byte Select xs h = (tt, h)
+  first_byte (Exchange x) xs h = ((h.0, tt), h.1)
+  first_byte Deselect xs h = (tt, h)
 
   lists : (l : AtLine Registers) (xs : List BusCall) → Bytes xs → AtRest bounded Mode0 l → Whole l →
       (bytes_answers wp l xs ≡ line_answers bounded Mode0 wp 0 l xs) × (bytes_run wp l xs ≡ line_run bounded Mode0 wp 0 l xs)
   lists l [] small rest whole = (refl, refl)
   lists l (x ∷ xs) small rest whole =
-      let parts = first-byte x xs small in
+      let parts = first_byte x xs small in
       let did = call l x parts.0 rest whole in
-      let next = subst (AtRest bounded Mode0) (sym did.0) (follows-bounded Mode0 wp 0 l x rest).0 in
+      let next = subst (AtRest bounded Mode0) (sym did.0) (follows_bounded Mode0 wp 0 l x rest).0 in
       let left = lists (bytes_after wp l x) xs parts.1 next did.2 in (
         ap₂ (λ (a : BusCall) (as' : List BusCall). a ∷ as') did.1 (left.0 ∙ ap (λ (m : AtLine Registers). line_answers bounded Mode0 wp 0 m xs) did.0),
         left.1 ∙ ap (λ (m : AtLine Registers). line_run bounded Mode0 wp 0 m xs) did.0,
       )
 
-pub both-buses : BothBuses
-both-buses mode wp waits b l xs small rest whole rests e =
+pub both_buses : BothBuses
+both_buses mode wp waits b l xs small rest whole rests e =
     let as-line = lists wp b xs small rest whole in
-    let lines = same bounded follows-bounded Mode0 mode wp 0 waits b l xs rest rests e in (
+    let lines = same bounded follows_bounded Mode0 mode wp 0 waits b l xs rest rests e in (
       as-line.0 ∙ lines.0,
       ap (meaning_of bounded wp) as-line.1 ∙ lines.1,
     )

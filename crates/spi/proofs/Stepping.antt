@@ -14,22 +14,22 @@ use Rattle.spi.specs.Steps.{Moment, steps}
 use Rattle.spi.specs.Bytewise.{whole_bytes, step_byte, read_byte}
 use Rattle.spi.specs.Lines.{byte_read}
 use Rattle.spi.specs.Stepping.{settled_at, moment_at, stepped_by, step_read, stepped_once, read_once}
-use Rattle.spi.proofs.Bytewise.{byte-at-once}
-use Rattle.spi.proofs.Clock.{chip_in, bits-puts, bits-over, bits-next}
+use Rattle.spi.proofs.Bytewise.{byte_at_once}
+use Rattle.spi.proofs.Clock.{chip_in, bits_puts, bits_over, bits_next}
 
 module _ (s : Sheet) (wp : Bool) (m : Moment Registers) (x : ℕ) (h : whole_bytes m.kept ≡ true) (l : x < 256) where
   abbrev then : Moment Registers
   then = steps bounded s wp m (bits_of 8 x)
 
-  puts-at-once : puts bounded (settled_at s m) (byte_samples Mode0 wp 0 x) ≡ settled_at s (step_byte s wp m x)
-  puts-at-once =
-      bits-puts bounded s Mode0 wp 0 m.rec m.kept m.so (bits_of 8 x)
-      ∙ ap (chip_in bounded s Mode0 wp 0 then) (bits-next bounded s Mode0 wp 0 m.rec m.kept m.so (bits_of 8 x))
-      ∙ ap (settled_at s) (byte-at-once s wp m x h l).0
+  puts_at_once : puts bounded (settled_at s m) (byte_samples Mode0 wp 0 x) ≡ settled_at s (step_byte s wp m x)
+  puts_at_once =
+      bits_puts bounded s Mode0 wp 0 m.rec m.kept m.so (bits_of 8 x)
+      ∙ ap (chip_in bounded s Mode0 wp 0 then) (bits_next bounded s Mode0 wp 0 m.rec m.kept m.so (bits_of 8 x))
+      ∙ ap (settled_at s) (byte_at_once s wp m x h l).0
 
-  read-at-once : byte_read bounded Mode0 wp (settled_at s m) (byte_samples Mode0 wp 0 x) ≡ read_byte s m
-  read-at-once =
-      ap number (bits-over bounded s Mode0 wp 0 m.rec m.kept m.so (bits_of 8 x)) ∙ (byte-at-once s wp m x h l).1
+  read_at_once : byte_read bounded Mode0 wp (settled_at s m) (byte_samples Mode0 wp 0 x) ≡ read_byte s m
+  read_at_once =
+      ap number (bits_over bounded s Mode0 wp 0 m.rec m.kept m.so (bits_of 8 x)) ∙ (byte_at_once s wp m x h l).1
 
 -- what is chosen where a test holds may be told by that
 cond_same : {A : Type 0} {a b : A} (w : Bool) (c : A) → (w ≡ true → a ≡ b) → cond w a c ≡ cond w b c
@@ -41,23 +41,23 @@ module _ (s : Sheet) (r : Record) (wp : Bool) (x : ℕ) (l : x < 256) where
   abbrev chip : Bool → Pins Registers → Chip Registers
   chip f p = record { sheet = s; fitted = f; rec = r; pins = p }
 
-  pub stepped_by-once : (f : Bool) (p : Pins Registers) → stepped_by (chip f p) wp x ≡ stepped_once (chip f p) wp x
-  stepped_by-once f deselected = refl
-  stepped_by-once false (selected sck hold k so) = refl
-  stepped_by-once true (selected true hold k so) = refl
-  stepped_by-once true (selected false false k so) = refl
-  stepped_by-once true (selected false true k so) =
+  pub stepped_by_once : (f : Bool) (p : Pins Registers) → stepped_by (chip f p) wp x ≡ stepped_once (chip f p) wp x
+  stepped_by_once f deselected = refl
+  stepped_by_once false (selected sck hold k so) = refl
+  stepped_by_once true (selected true hold k so) = refl
+  stepped_by_once true (selected false false k so) = refl
+  stepped_by_once true (selected false true k so) =
       let c = chip true (selected false true k so) in
-      cond_same (whole_bytes k) c (λ e. puts-at-once s wp (moment_at r c.pins) x e l)
+      cond_same (whole_bytes k) c (λ e. puts_at_once s wp (moment_at r c.pins) x e l)
 
-  pub step_read-once : (f : Bool) (p : Pins Registers) → step_read (chip f p) wp x ≡ read_once (chip f p)
-  step_read-once f deselected = refl
-  step_read-once false (selected sck hold k so) = refl
-  step_read-once true (selected true hold k so) = refl
-  step_read-once true (selected false false k so) = refl
-  step_read-once true (selected false true k so) =
+  pub step_read_once : (f : Bool) (p : Pins Registers) → step_read (chip f p) wp x ≡ read_once (chip f p)
+  step_read_once f deselected = refl
+  step_read_once false (selected sck hold k so) = refl
+  step_read_once true (selected true hold k so) = refl
+  step_read_once true (selected false false k so) = refl
+  step_read_once true (selected false true k so) =
       let m = moment_at r (selected false true k so) in
-      cond_same (whole_bytes k) 0xFF (λ e. read-at-once s wp m x e l)
+      cond_same (whole_bytes k) 0xFF (λ e. read_at_once s wp m x e l)
 
 -- a byte at once does what its samples in mode 0 do, and reads what is read in them
-pub ruleset once = (stepped_by-once, step_read-once)
+pub ruleset once = (stepped_by_once, step_read_once)

@@ -15,49 +15,49 @@ use Rattle.spi.specs.Buses.{Bus, moment_in, after}
 use Rattle.spi.specs.Laws.{WholeBytes, StaysWhole}
 
 -- no rise changes the sleep mark
-effect-asleep : (s : Sheet) (c : Option Command) (wp : Bool) (r : Record) (n a x : ℕ) → (effect s c wp r n a x).asleep ≡ r.asleep
-effect-asleep s c wp r n a x = grind arith
+effect_asleep : (s : Sheet) (c : Option Command) (wp : Bool) (r : Record) (n a x : ℕ) → (effect s c wp r n a x).asleep ≡ r.asleep
+effect_asleep s c wp r n a x = grind arith
 
-rise-asleep : (s : Sheet) (wp : Bool) (r : Record) (bits : List Bool) → (after_rise s wp r bits).asleep ≡ r.asleep
-rise-asleep s wp r bits = effect-asleep s (command s bits) wp r (length bits) (cell_at s 32 bits) (byte_after (length bits - 8) bits)
+rise_asleep : (s : Sheet) (wp : Bool) (r : Record) (bits : List Bool) → (after_rise s wp r bits).asleep ≡ r.asleep
+rise_asleep s wp r bits = effect_asleep s (command s bits) wp r (length bits) (cell_at s 32 bits) (byte_after (length bits - 8) bits)
 
 module _ (s : Sheet) (wp : Bool) where
   -- how many bits a session has more after so many: none in a chip that sleeps
   abbrev more : Bool → ℕ → ℕ
   more a n = cond a 0 n
 
-  kept-length : (m : Moment (List Bool)) (a : Bool) → m.rec.asleep ≡ a → (bs : List Bool) →
+  kept_length : (m : Moment (List Bool)) (a : Bool) → m.rec.asleep ≡ a → (bs : List Bool) →
       length (steps whole s wp m bs).kept ≡ length m.kept + more a (length bs)
-  kept-length m true e [] = omega arith
-  kept-length m false e [] = omega arith
-  kept-length m true e (b ∷ bs) =
-      let t = kept-length (step whole s wp m b) true (simp e) bs in
+  kept_length m true e [] = omega arith
+  kept_length m false e [] = omega arith
+  kept_length m true e (b ∷ bs) =
+      let t = kept_length (step whole s wp m b) true (simp e) bs in
       let k : length (step whole s wp m b).kept ≡ length m.kept = simp e in
       omega arith
-  kept-length m false e (b ∷ bs) =
-      let t = kept-length (step whole s wp m b) false (simp e (rise-asleep s wp m.rec (m.kept ++ b ∷ []) ∙ e)) bs in
+  kept_length m false e (b ∷ bs) =
+      let t = kept_length (step whole s wp m b) false (simp e (rise_asleep s wp m.rec (m.kept ++ b ∷ []) ∙ e)) bs in
       let k : length (step whole s wp m b).kept ≡ length m.kept + 1 = simp e (length_push m.kept b) in
       let g : length (b ∷ bs) ≡ suc (length bs) = refl in
       omega arith
 
-  eight-more : (a : Bool) (n k : ℕ) → n ≡ k + more a 8 → k % 8 ≡ 0 → n % 8 ≡ 0
-  eight-more true n k e h = omega arith
-  eight-more false n k e h = omega arith
+  eight_more : (a : Bool) (n k : ℕ) → n ≡ k + more a 8 → k % 8 ≡ 0 → n % 8 ≡ 0
+  eight_more true n k e h = omega arith
+  eight_more false n k e h = omega arith
 
   abbrev bus : Bool → Record → Option (List Bool) → Bus (List Bool)
   bus f r o = record { sheet = s; wp = wp; fitted = f; rec = r; session = o }
 
-  after-whole : (f : Bool) (r : Record) (o : Option (List Bool)) (x : BusCall) → WholeBytes o → WholeBytes (after whole (bus f r o) x).session
-  after-whole f r None Select h = refl
-  after-whole f r (Some bits) Select h = h
-  after-whole f r None (Exchange x) h = tt
-  after-whole true r (Some bits) (Exchange x) h =
-      eight-more r.asleep _ (length bits) (kept-length (moment_in whole (bus true r (Some bits)) bits) r.asleep refl (bits_of 8 x)) h
-  after-whole false r (Some bits) (Exchange x) h = h
-  after-whole f r None Deselect h = tt
-  after-whole true r (Some bits) Deselect h = tt
-  after-whole false r (Some bits) Deselect h = tt
+  after_whole : (f : Bool) (r : Record) (o : Option (List Bool)) (x : BusCall) → WholeBytes o → WholeBytes (after whole (bus f r o) x).session
+  after_whole f r None Select h = refl
+  after_whole f r (Some bits) Select h = h
+  after_whole f r None (Exchange x) h = tt
+  after_whole true r (Some bits) (Exchange x) h =
+      eight_more r.asleep _ (length bits) (kept_length (moment_in whole (bus true r (Some bits)) bits) r.asleep refl (bits_of 8 x)) h
+  after_whole false r (Some bits) (Exchange x) h = h
+  after_whole f r None Deselect h = tt
+  after_whole true r (Some bits) Deselect h = tt
+  after_whole false r (Some bits) Deselect h = tt
 
-pub stays-whole : StaysWhole
-stays-whole b [] h = h
-stays-whole b (x ∷ xs) h = stays-whole (after whole b x) xs (after-whole b.sheet b.wp b.fitted b.rec b.session x h)
+pub stays_whole : StaysWhole
+stays_whole b [] h = h
+stays_whole b (x ∷ xs) h = stays_whole (after whole b x) xs (after_whole b.sheet b.wp b.fitted b.rec b.session x h)

@@ -1,5 +1,8 @@
 // SPI: the terms of byte buses as types, with the definitions of what a bus means and of the samples that a line puts
 // (specs/), and the proofs of the laws that tie the two together (proofs/).
+//
+// What it promises: the samples of a line do to a chip what the calls of a bus do to its meaning, in both modes and with any
+// number of held samples; and a byte taken at once is its eight bits. The calls of the buses name these laws.
 #![tactic(auto)]
 
 mod bus_call;

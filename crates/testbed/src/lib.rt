@@ -1,5 +1,7 @@
 // More C entry points, for tests and measurements: a write and a read through a driver, over either bus, and a read of plain
 // memory.
+//
+// What it promises: what is answered, the lent memory and the buffer are one definition's value of what was passed.
 #![tactic(auto)]
 
 ghost use Rattle.std.specs.Prelude.{◌≡◌, true, length};
@@ -8,6 +10,7 @@ ghost use Rattle.image.specs.Results.{read_result, read_into};
 ghost use Rattle.image.specs.Layers.{plain};
 ghost use Rattle.reports.specs.Marks.{marks_by};
 ghost use Rattle.testbed.specs.Transfers.{number_of, Transfers};
+ghost use Rattle.testbed.specs.Ways.{WayBy};
 
 use board::{Board, Plain};
 use bus::{Setting, Way};
@@ -40,7 +43,8 @@ fn number_of(outcome: Result<(), Refusal>) -> u32
 
 // How a chip is reached: at 0 stepped by bytes, at 1 over a line in mode 0, else over a line in mode 3. WP is high.
 fn way(code: u8, held: u8) -> Way
-    ensures { wp_of result ≡ true }
+    ensures by { WayBy code held result }
+    ensures wp { wp_of result ≡ true }
 {
     match code {
         0 => Way::Bytes { wp: true },

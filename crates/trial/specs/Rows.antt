@@ -19,11 +19,11 @@ use Rattle.trial.specs.declared.WindowCase.{WindowCase}
 use Rattle.trial.specs.declared.Case.{Case}
 use Rattle.trial.specs.declared.Case.TheVariants.{Pins, Window}
 
--- the sheets of the parts, with f 02h and the upper bits of t 0
+-- the sheets of the parts, the upper bits of t 0; f is 09h for MB85RS256B, by its sheet, and 02h for the others
 abbrev pub sheet_of : Part → Sheet
 sheet_of Mb85rs64vy = record { t = density Mb85rs64vy; f = 0x02; marks = marks Mb85rs64vy; known = (lit≤ tt, lit≤ tt); bytes = (lit≤ tt, lit≤ tt) }
 sheet_of Mb85rs128ty = record { t = density Mb85rs128ty; f = 0x02; marks = marks Mb85rs128ty; known = (lit≤ tt, lit≤ tt); bytes = (lit≤ tt, lit≤ tt) }
-sheet_of Mb85rs256b = record { t = density Mb85rs256b; f = 0x02; marks = marks Mb85rs256b; known = (lit≤ tt, lit≤ tt); bytes = (lit≤ tt, lit≤ tt) }
+sheet_of Mb85rs256b = record { t = density Mb85rs256b; f = 0x09; marks = marks Mb85rs256b; known = (lit≤ tt, lit≤ tt); bytes = (lit≤ tt, lit≤ tt) }
 
 -- a memory of zeros
 abbrev pub zeros : Part → List ℕ

@@ -1,5 +1,7 @@
-// The trial cases: what a chip must show after what is sent to it. The definitions give what each row says, computed by
-// the checker, and the test runs the same rows through the chip.
+// The trial cases: what a chip must show after what is sent to it.
+//
+// What it promises: the definitions give what each row of the table says, computed by the checker; a test runs the same rows
+// through the chip.
 #![tactic(auto)]
 
 ghost use Rattle.std.specs.Prelude.{◌≤◌, MatchOption};
@@ -312,7 +314,11 @@ mod tests {
     // Sends the sessions of a row to a chip over a memory of zeros, and looks at what is read and kept.
     fn run_pins(rt: &(impl Abort + Alloc<A = Global>), case: &PinCase) -> Result<(), Fail> {
         let alloc = rt.alloc();
-        let sheet = Sheet::of(case.part, 0, 0x02);
+        let f = match case.part {
+            Part::Mb85rs256b => 0x09,
+            _ => 0x02,
+        };
+        let sheet = Sheet::of(case.part, 0, f);
         let mut memory = vec![in alloc; 0u8; sheet.cells()]?;
         let mut chip = ParkedChip::new(sheet, case.stored).power(&mut memory);
         let sent = send_all(alloc, &mut chip, case);

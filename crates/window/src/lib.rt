@@ -1,4 +1,6 @@
 // A window: a part of a board, as a board.
+//
+// What it promises: that of a board, for the cells that exist from the offset on; and what the board below is at exit.
 #![tactic(auto)]
 
 ghost use Rattle.std.specs.Prelude.{◌≡◌, ◌+◌, ◌≤◌, length, IfOk};

@@ -49,8 +49,8 @@ impl Chip<'_> {
     // Takes power away: the parked chip is given back, and the memory keeps its bytes.
     pub fn power_off(self) -> ParkedChip
         ensures memory { self.exit.0.now ≡ self.entry.memory.now }
-        ensures sheet { result.sheet ≡ self.entry.sheet }
         ensures stored { result.stored.bits ≡ self.entry.status.stored.bits }
+        ensures sheet { result.sheet ≡ self.entry.sheet }
     {
         let Chip {
             memory: _,

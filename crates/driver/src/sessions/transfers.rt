@@ -127,17 +127,17 @@ pub fn transfer(
 ) -> (ParkedChip, Outcome)
     ensures written { result.1.written ≡
         write_result (image_of (left_by parked.sheet memory.old parked.stored.bits before.now (wp_of way))) start bytes.now }
-    ensures memory { memory.new ≡
-        (after_write (left_by parked.sheet memory.old parked.stored.bits before.now (wp_of way)) start bytes.now).rec.memory }
-    ensures stored { result.0.stored.bits ≡
-        (after_write (left_by parked.sheet memory.old parked.stored.bits before.now (wp_of way)) start bytes.now).rec.stored }
-    ensures sheet { result.0.sheet ≡ parked.sheet }
     ensures read { result.1.read ≡
         read_result (image_of (after_write (left_by parked.sheet memory.old parked.stored.bits before.now (wp_of way)) start bytes.now))
         start (length buffer.old) }
     ensures filled { buffer.new ≡
         read_into (image_of (after_write (left_by parked.sheet memory.old parked.stored.bits before.now (wp_of way)) start bytes.now))
         start buffer.old }
+    ensures memory { memory.new ≡
+        (after_write (left_by parked.sheet memory.old parked.stored.bits before.now (wp_of way)) start bytes.now).rec.memory }
+    ensures stored { result.0.stored.bits ≡
+        (after_write (left_by parked.sheet memory.old parked.stored.bits before.now (wp_of way)) start bytes.now).rec.stored }
+    ensures sheet { result.0.sheet ≡ parked.sheet }
 {
     let mut chip = parked.power(memory);
     put_all(&mut chip, before);

@@ -157,9 +157,9 @@ pub fn board_run<B: Board>(
     buffer: &mut [u8],
 ) -> Result<Counts, Refusal>
     ensures result { result ≡ (board_outcome (B.Board.image board.old) script.now buffer.old).result }
-    ensures image { B.Board.image board.new ≡ (board_outcome (B.Board.image board.old) script.now buffer.old).left }
-    ensures buffer { buffer.new ≡ (board_outcome (B.Board.image board.old) script.now buffer.old).buffer }
     ensures within { IfOk result (λ counts. counts.bytes ≤ length buffer.old) }
+    ensures buffer { buffer.new ≡ (board_outcome (B.Board.image board.old) script.now buffer.old).buffer }
+    ensures image { B.Board.image board.new ≡ (board_outcome (B.Board.image board.old) script.now buffer.old).left }
     ensures lent { B.Board.lent board.new ≡ B.Board.lent board.old }
     ensures law { ReadsExactly board_kinds }
     ensures fences { KeepsFenced }

@@ -78,9 +78,9 @@ impl<'s> Runs<'s> for Chip<'_> {
 #[tactic(auto, using(crate::proofs::Exact::reads_exactly))]
 pub fn chip_run(chip: &mut Chip<'_>, script: &[u8], buffer: &mut [u8]) -> Result<Counts, Refusal>
     ensures result { result ≡ (outcome bounded (chip_of chip.old) script.now buffer.old).result }
-    ensures chip { chip_of chip.new ≡ (outcome bounded (chip_of chip.old) script.now buffer.old).left }
-    ensures buffer { buffer.new ≡ (outcome bounded (chip_of chip.old) script.now buffer.old).buffer }
     ensures within { IfOk result (λ counts. counts.bytes ≤ length buffer.old) }
+    ensures buffer { buffer.new ≡ (outcome bounded (chip_of chip.old) script.now buffer.old).buffer }
+    ensures chip { chip_of chip.new ≡ (outcome bounded (chip_of chip.old) script.now buffer.old).left }
     ensures lent { chip.new.memory.ghost_name ≡ chip.old.memory.ghost_name }
     ensures law { ReadsExactly chip_kinds }
 {

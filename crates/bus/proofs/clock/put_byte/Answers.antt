@@ -6,7 +6,7 @@ use Rattle.spi.specs.Puts.{tracing, puts}
 use Rattle.spi.specs.Samples.{rest, bit_samples, bits_samples}
 use Rattle.spi.specs.Lines.{byte_read}
 use Rattle.spi.proofs.Clock.{over}
-use Rattle.spi.proofs.Pieces.{bits-more}
+use Rattle.spi.proofs.Pieces.{bits_more}
 use Rattle.bus.proofs.Reading.{reads_more, read_below}
 use Rattle.bus.proofs.clock.put_byte.Goals as goal
 
@@ -32,14 +32,14 @@ loop-taken-preserved g c =
     let chip = subst (λ (k : ℕ). after ≡ puts bounded now (bit_samples mode wp waits (bit_at k byte))) at did.chip in
     let traced = subst (λ (k : ℕ). after-trace ≡ tracing g.P.Pins.traced trace (bit_samples mode wp waits (bit_at k byte))) at did.traced in
     let heard = subst (λ (k : ℕ). over bounded now (rest mode) (bit_samples mode wp waits (bit_at k byte)) ≡ r ∷ []) at did.read in (
-      sym (bits-more (put bounded) mode wp waits now after i byte chip)
+      sym (bits_more (put bounded) mode wp waits now after i byte chip)
           ∙ ap (λ (k : ℕ). puts bounded now (bits_samples mode wp waits (bits_of k byte))) (sym is)
           ∙ inv.0,
       ap (λ (k : ℕ). (2 * read + k) * 2 ^ i + byte_read bounded mode wp after (bits_samples mode wp waits (bits_of i byte))) bit-is
           ∙ reads_more mode wp waits now after i byte r read _ chip heard
           (ap (λ (k : ℕ). read * 2 ^ k + byte_read bounded mode wp now (bits_samples mode wp waits (bits_of k byte))) (sym is) ∙ inv.1),
       subst (λ (k : ℕ). 2 * read + k < 2 ^ (taken + 1)) (sym bit-is) (read_below read taken r inv.2),
-      sym (bits-more g.P.Pins.traced mode wp waits trace after-trace i byte traced)
+      sym (bits_more g.P.Pins.traced mode wp waits trace after-trace i byte traced)
           ∙ ap (λ (k : ℕ). tracing g.P.Pins.traced trace (bits_samples mode wp waits (bits_of k byte))) (sym is)
           ∙ inv.3,
       did.lent ∙ inv.4,

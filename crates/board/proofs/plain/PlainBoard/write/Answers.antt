@@ -1,5 +1,5 @@
 use Rattle.std.proofs.Common.{length, refl, arith}
-use Rattle.board.proofs.Bare.{fits_memory, write_done, write-left, memory-left}
+use Rattle.board.proofs.Bare.{fits_memory, write_done, write_left, memory_left}
 use Rattle.board.proofs.plain.PlainBoard.write.Goals as goal
 
 pub slice_bounds-copy_from_slice-end : goal.slice_bounds-copy_from_slice-end
@@ -17,7 +17,7 @@ returns c =
     let copied = c.copy_from_slice.ensures.after in
     record {
       answer = write_done m s bytes all lies;
-      after = write-left m s bytes all lies copied;
+      after = write_left m s bytes all lies copied;
       lent = refl;
-      memory = memory-left m s bytes all lies copied;
+      memory = memory_left m s bytes all lies copied;
     }

@@ -10,7 +10,7 @@ use Rattle.spi.specs.Lines.{call_samples}
 use Rattle.spi.specs.Meanings.{kept_of}
 use Rattle.spi.proofs.Aligned.{byte_leaves_whole}
 use Rattle.spi.proofs.Stepped.{steps}
-use Rattle.spi.proofs.Bytewise.{byte-at-once}
+use Rattle.spi.proofs.Bytewise.{byte_at_once}
 use Rattle.bus.specs.Views.{byte_bus_of}
 use Rattle.bus.proofs.Meant.{rests, meant, told}
 use Rattle.bus.proofs.bytes.ByteBusBus.exchange.Goals as goal
@@ -50,7 +50,7 @@ returns-then-self-clause-put g c =
     ∙ ap (λ (t : Bool). puts bounded line.chip (call_samples Mode0 bus.wp 0 t (Exchange c.args.byte))) (sym c.if-self.true)
 
 pub returns-then-self-clause-law : goal.returns-then-self-clause-law
-returns-then-self-clause-law g c = byte-at-once
+returns-then-self-clause-law g c = byte_at_once
 
 pub returns-else-self-clause-law : goal.returns-else-self-clause-law
-returns-else-self-clause-law g c = byte-at-once
+returns-else-self-clause-law g c = byte_at_once

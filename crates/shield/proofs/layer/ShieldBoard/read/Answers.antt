@@ -1,6 +1,6 @@
 use Rattle.std.proofs.Common.{length, ◌∙◌}
 use Rattle.shield.specs.Shields.{ranges_of}
-use Rattle.shield.proofs.Covers.{read_same, into-same}
+use Rattle.shield.proofs.Covers.{read_same, into_same}
 use Rattle.shield.proofs.layer.ShieldBoard.read.Goals as goal
 
 pub returns-clause-answer : goal.returns-clause-answer
@@ -11,4 +11,4 @@ returns-clause-answer g c =
 pub returns-clause-filled : goal.returns-clause-filled
 returns-clause-filled g c =
     let s = c.args.self.now in
-    c.read.ensures.filled ∙ into-same (ranges_of s.ranges) (g.B.Board.image s.below) c.args.start c.args.buffer.now
+    c.read.ensures.filled ∙ into_same (ranges_of s.ranges) (g.B.Board.image s.below) c.args.start c.args.buffer.now

@@ -2,7 +2,7 @@ use Rattle.std.proofs.Common.{sym, ap, ◌∙◌}
 use Rattle.image.specs.Images.{Image}
 use Rattle.image.specs.Results.{write_result, written}
 use Rattle.shield.specs.Shields.{ranges_of}
-use Rattle.shield.proofs.Covers.{passed, shown-written, below-written}
+use Rattle.shield.proofs.Covers.{passed, shown_written, below_written}
 use Rattle.shield.proofs.layer.ShieldBoard.write.Goals as goal
 
 pub returns-clause-answer : goal.returns-clause-answer
@@ -19,7 +19,7 @@ returns-clause-after g c =
     let i = g.B.Board.image c.args.self.now.below in
     let did = c.in_ok-first_fence.ensures in
     let o = passed rs i c.args.start c.args.bytes.now did.answer c.if-is_some.ensures in
-    rw did.ranges (shown-written rs i _ c.args.start c.args.bytes.now o (c.write.ensures.after ∙ ap (λ (j : Image). written j c.args.start c.args.bytes.now) did.below))
+    rw did.ranges (shown_written rs i _ c.args.start c.args.bytes.now o (c.write.ensures.after ∙ ap (λ (j : Image). written j c.args.start c.args.bytes.now) did.below))
 
 pub returns-clause-below : goal.returns-clause-below
 returns-clause-below g c =
@@ -27,4 +27,4 @@ returns-clause-below g c =
     let i = g.B.Board.image c.args.self.now.below in
     let did = c.in_ok-first_fence.ensures in
     let o = passed rs i c.args.start c.args.bytes.now did.answer c.if-is_some.ensures in
-    below-written rs i _ c.args.start c.args.bytes.now o (c.write.ensures.after ∙ ap (λ (j : Image). written j c.args.start c.args.bytes.now) did.below)
+    below_written rs i _ c.args.start c.args.bytes.now o (c.write.ensures.after ∙ ap (λ (j : Image). written j c.args.start c.args.bytes.now) did.below)

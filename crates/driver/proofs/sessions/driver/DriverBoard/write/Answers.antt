@@ -1,4 +1,4 @@
-use Rattle.std.proofs.Common.{◌&&◌, ◌+◌, nat_lt, length, ap, ◌∙◌, arith}
+use Rattle.std.proofs.Common.{ap, ◌∙◌, arith}
 use Rattle.std.proofs.lemmas.Grind.{common_steps}
 use Rattle.driver.specs.Drives.{image_of}
 use Rattle.driver.proofs.Cells.{write_image}
@@ -7,70 +7,43 @@ use Rattle.driver.proofs.sessions.driver.DriverBoard.write.Goals as goal
 
 pub returns-then-is_some-clause-answer : goal.returns-then-is_some-clause-answer
 returns-then-is_some-clause-answer g c =
-    let b = g.B.Bus.meaning c.args.self.now.bus in
-    let found = c.survey-found.ensures in
-    let size = c.survey-found.result.size in
-    let free = c.survey-found.result.free in
-    let bytes = c.args.bytes.now in
-    let w = is_held (nat_lt 0 (length bytes) && nat_lt free (c.args.start + length bytes)) _ _ _ c.first_fence.ensures c.is_some.ensures ∙ c.if-is_some.true in
-    fenced_result b size free c.args.start found.size found.free bytes c.in_ok-check_range.ensures w
-
-pub returns-then-is_some-clause-after : goal.returns-then-is_some-clause-after
-returns-then-is_some-clause-after g c =
-    let b = g.B.Bus.meaning c.args.self.now.bus in
-    let found = c.survey-found.ensures in
-    let size = c.survey-found.result.size in
-    let free = c.survey-found.result.free in
-    let bytes = c.args.bytes.now in
-    let w = is_held (nat_lt 0 (length bytes) && nat_lt free (c.args.start + length bytes)) _ _ _ c.first_fence.ensures c.is_some.ensures ∙ c.if-is_some.true in
-    ap image_of (found.after ∙ fenced_left b size free c.args.start found.size found.free bytes c.in_ok-check_range.ensures w) ∙ write_image b c.args.start bytes
+    fenced_result (g.B.Bus.meaning c.args.self.now.bus) _ _ c.args.start c.survey-found.ensures.size c.survey-found.ensures.free c.args.bytes.now
+    c.in_ok-check_range.ensures (is_held _ _ _ _ c.first_fence.ensures c.is_some.ensures ∙ c.if-is_some.true)
 
 pub returns-then-is_some-clause-bus : goal.returns-then-is_some-clause-bus
 returns-then-is_some-clause-bus g c =
-    let b = g.B.Bus.meaning c.args.self.now.bus in
-    let found = c.survey-found.ensures in
-    let size = c.survey-found.result.size in
-    let free = c.survey-found.result.free in
-    let bytes = c.args.bytes.now in
-    let w = is_held (nat_lt 0 (length bytes) && nat_lt free (c.args.start + length bytes)) _ _ _ c.first_fence.ensures c.is_some.ensures ∙ c.if-is_some.true in
-    found.after ∙ fenced_left b size free c.args.start found.size found.free bytes c.in_ok-check_range.ensures w
+    c.survey-found.ensures.after
+    ∙ fenced_left (g.B.Bus.meaning c.args.self.now.bus) _ _ c.args.start c.survey-found.ensures.size c.survey-found.ensures.free c.args.bytes.now
+    c.in_ok-check_range.ensures (is_held _ _ _ _ c.first_fence.ensures c.is_some.ensures ∙ c.if-is_some.true)
+
+pub returns-then-is_some-clause-after : goal.returns-then-is_some-clause-after
+returns-then-is_some-clause-after g c =
+    ap image_of (c.survey-found.ensures.after
+    ∙ fenced_left (g.B.Bus.meaning c.args.self.now.bus) _ _ c.args.start c.survey-found.ensures.size c.survey-found.ensures.free c.args.bytes.now
+    c.in_ok-check_range.ensures (is_held _ _ _ _ c.first_fence.ensures c.is_some.ensures ∙ c.if-is_some.true))
+    ∙ write_image (g.B.Bus.meaning c.args.self.now.bus) c.args.start c.args.bytes.now
 
 pub returns-then-not-is_empty-clause-answer : goal.returns-then-not-is_empty-clause-answer
 returns-then-not-is_empty-clause-answer g c =
-    let b = g.B.Bus.meaning c.args.self.now.bus in
-    let found = c.survey-found.ensures in
-    let size = c.survey-found.result.size in
-    let free = c.survey-found.result.free in
-    let bytes = c.args.bytes.now in
-    let w = is_held (nat_lt 0 (length bytes) && nat_lt free (c.args.start + length bytes)) _ _ _ c.first_fence.ensures c.is_some.ensures ∙ c.if-is_some.false in
-    free_result b size free c.args.start found.size found.free bytes c.in_ok-check_range.ensures w
-
-pub returns-then-not-is_empty-clause-after : goal.returns-then-not-is_empty-clause-after
-returns-then-not-is_empty-clause-after g c =
-    let b = g.B.Bus.meaning c.args.self.now.bus in
-    let found = c.survey-found.ensures in
-    let size = c.survey-found.result.size in
-    let free = c.survey-found.result.free in
-    let bytes = c.args.bytes.now in
-    let w = is_held (nat_lt 0 (length bytes) && nat_lt free (c.args.start + length bytes)) _ _ _ c.first_fence.ensures c.is_some.ensures ∙ c.if-is_some.false in
-    ap image_of (written_left b size free c.args.start found.size found.free bytes c.in_ok-check_range.ensures w (grind (arith, common_steps)) _ _ found.after c.write_cells.ensures.after) ∙ write_image b c.args.start bytes
+    free_result (g.B.Bus.meaning c.args.self.now.bus) _ _ c.args.start c.survey-found.ensures.size c.survey-found.ensures.free c.args.bytes.now
+    c.in_ok-check_range.ensures (is_held _ _ _ _ c.first_fence.ensures c.is_some.ensures ∙ c.if-is_some.false)
 
 pub returns-then-not-is_empty-clause-bus : goal.returns-then-not-is_empty-clause-bus
 returns-then-not-is_empty-clause-bus g c =
-    let b = g.B.Bus.meaning c.args.self.now.bus in
-    let found = c.survey-found.ensures in
-    let size = c.survey-found.result.size in
-    let free = c.survey-found.result.free in
-    let bytes = c.args.bytes.now in
-    let w = is_held (nat_lt 0 (length bytes) && nat_lt free (c.args.start + length bytes)) _ _ _ c.first_fence.ensures c.is_some.ensures ∙ c.if-is_some.false in
-    written_left b size free c.args.start found.size found.free bytes c.in_ok-check_range.ensures w (grind (arith, common_steps)) _ _ found.after c.write_cells.ensures.after
+    written_left (g.B.Bus.meaning c.args.self.now.bus) _ _ c.args.start c.survey-found.ensures.size c.survey-found.ensures.free c.args.bytes.now
+    c.in_ok-check_range.ensures (is_held _ _ _ _ c.first_fence.ensures c.is_some.ensures ∙ c.if-is_some.false)
+    (grind (arith, common_steps)) _ _ c.survey-found.ensures.after c.write_cells.ensures.after
+
+pub returns-then-not-is_empty-clause-after : goal.returns-then-not-is_empty-clause-after
+returns-then-not-is_empty-clause-after g c =
+    ap image_of (written_left (g.B.Bus.meaning c.args.self.now.bus) _ _ c.args.start c.survey-found.ensures.size c.survey-found.ensures.free
+    c.args.bytes.now c.in_ok-check_range.ensures (is_held _ _ _ _ c.first_fence.ensures c.is_some.ensures ∙ c.if-is_some.false)
+    (grind (arith, common_steps)) _ _ c.survey-found.ensures.after c.write_cells.ensures.after)
+    ∙ write_image (g.B.Bus.meaning c.args.self.now.bus) c.args.start c.args.bytes.now
 
 pub returns-else-not-is_empty-clause-after : goal.returns-else-not-is_empty-clause-after
 returns-else-not-is_empty-clause-after g c =
-    let b = g.B.Bus.meaning c.args.self.now.bus in
-    let found = c.survey-found.ensures in
-    let size = c.survey-found.result.size in
-    let free = c.survey-found.result.free in
-    let bytes = c.args.bytes.now in
-    let w = is_held (nat_lt 0 (length bytes) && nat_lt free (c.args.start + length bytes)) _ _ _ c.first_fence.ensures c.is_some.ensures ∙ c.if-is_some.false in
-    ap image_of (found.after ∙ nothing_left b size free c.args.start found.size found.free bytes c.in_ok-check_range.ensures w (grind (arith, common_steps))) ∙ write_image b c.args.start bytes
+    ap image_of (c.survey-found.ensures.after
+    ∙ nothing_left (g.B.Bus.meaning c.args.self.now.bus) _ _ c.args.start c.survey-found.ensures.size c.survey-found.ensures.free c.args.bytes.now
+    c.in_ok-check_range.ensures (is_held _ _ _ _ c.first_fence.ensures c.is_some.ensures ∙ c.if-is_some.false) (grind (arith, common_steps)))
+    ∙ write_image (g.B.Bus.meaning c.args.self.now.bus) c.args.start c.args.bytes.now
