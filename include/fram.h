@@ -2,7 +2,7 @@
  * chip. Each run powers a chip over the caller's memory, carries out a script on it, and takes power away again: memory holds
  * what the chip would hold, and the report says which stored status bits it has.
  *
- * Link with libfram.a (README.md has the commands). The functions keep nothing between calls, take no memory of their own, and
+ * Link with libfram.a (docs/LIBRARY.md has the commands). The functions keep nothing between calls, take no memory of their own, and
  * may be called from several threads at once on buffers of their own.
  */
 #ifndef FRAM_H

@@ -9,7 +9,7 @@ fn main() {
         return;
     }
     let package = env::var("CARGO_MANIFEST_DIR").expect("cargo names the package's directory");
-    for library in ["fram", "testbed"] {
+    for library in ["fram", "fram_testbed"] {
         let directory = Path::new(&package).join("../crates").join(library).join("out");
         println!("cargo::rerun-if-changed={}", directory.join(format!("lib{library}.a")).display());
         println!("cargo::rustc-link-search=native={}", directory.display());

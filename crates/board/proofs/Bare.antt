@@ -2,10 +2,10 @@
 use Rattle.std.proofs.Common.{◌≡◌, ℕ, zero, suc, ◌+◌, ◌-◌, ◌≤◌, min, true, List, [], ◌∷◌, ◌++◌, map, length, take, drop, None, Ok, sym, refl, ap, ap₂, ◌∙◌, suc-add, arith}
 use borrow.Rule.Slice.PartMut.{post_of, Post-is}
 use Rattle.std.proofs.lemmas.List.{drop-map, take-map, length-map, length-take}
-use Rattle.image.specs.Images.{most, inside, bytes_of, first_fenced, fence_in, overlaid, overwritten, free}
-use Rattle.image.specs.Results.{range_result, fence_result, read_into, write_result, written}
-use Rattle.image.specs.Layers.{plain}
-use Rattle.image.proofs.Cells.{range_inside, range_fits}
+use Rattle.board_model.specs.Images.{most, inside, bytes_of, first_fenced, fence_in, overlaid, overwritten, free}
+use Rattle.board_model.specs.Results.{range_result, fence_result, read_into, write_result, written}
+use Rattle.board_model.specs.Layers.{plain}
+use Rattle.board_model.proofs.Cells.{range_inside, range_fits}
 use Rattle.board.specs.Plains.{patched, memory_after}
 
 none_fenced : (at : ℕ) (bs : List ℕ) → first_fenced at (map free bs) ≡ None

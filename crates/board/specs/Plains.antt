@@ -1,7 +1,7 @@
 -- Plain memory as a board.
-use Rattle.std.specs.Prelude.{ℕ, ◌+◌, cond, List, ◌++◌, length, take, drop}
-use Rattle.image.specs.Images.{Image, inside}
-use Rattle.image.specs.Layers.{plain}
+use Rattle.std.specs.Prelude.{ℕ, ◌+◌, if◌then◌else◌, List, ◌++◌, length, take, drop}
+use Rattle.board_model.specs.Images.{Image, inside}
+use Rattle.board_model.specs.Layers.{plain}
 use Rattle.board.specs.declared.plain.Plain.{Plain}
 
 abbrev pub plain_image : Plain → Image
@@ -13,4 +13,5 @@ patched memory start bytes = take start memory ++ (bytes ++ drop (start + length
 
 -- the lent memory after a write to the board over it; bytes past the limit are in no range
 abbrev pub memory_after : List ℕ → ℕ → List ℕ → List ℕ
-memory_after memory start bytes = cond (inside (plain memory) start (length bytes)) (patched memory start bytes) memory
+memory_after memory start bytes =
+    if inside (plain memory) start (length bytes) then patched memory start bytes else memory

@@ -1,23 +1,23 @@
-// Boards: anything that means an image, and plain memory, the lowest of them.
-//
-// What it promises: each call of a board answers and leaves what the definitions say of its image, a refused call leaves image
-// and buffer, and no call changes what a board was given.
+//! Boards: anything that means an image, and plain memory, the lowest of them.
+//!
+//! What it promises: each call of a board answers and leaves what the definitions say of its image, a refused call leaves image
+//! and buffer, and no call changes what a board was given.
 #![tactic(auto)]
 
 ghost use Rattle.std.specs.Prelude.{◌≡◌, ◌≤◌, length};
-ghost use Rattle.image.specs.Images.{Image, most};
-ghost use Rattle.image.specs.Results.{range_result, fence_result, read_result, read_into, write_result, written};
-ghost use Rattle.image.specs.Lent.{Lent, through};
+ghost use Rattle.board_model.specs.Images.{Image, most};
+ghost use Rattle.board_model.specs.Results.{range_result, fence_result, read_result, read_into, write_result, written};
+ghost use Rattle.std.specs.Borrow.{GName};
 
 mod plain;
 
 use datasheet::Refusal;
 pub use plain::{Plain, write_plain};
 
-// The most cells that a board has.
+/// The most cells that a board has.
 pub const MOST: usize = 1_048_576;
 
-// Refuses `count` places from `start` on that do not all lie in a board of this size.
+/// Refuses `count` places from `start` on that do not all lie in a board of this size.
 pub fn check_range(start: usize, count: usize, size: usize) -> Result<(), Refusal>
     ensures { result ≡ range_result size start count }
 {
@@ -28,37 +28,39 @@ pub fn check_range(start: usize, count: usize, size: usize) -> Result<(), Refusa
     }
 }
 
-// A board means an image. Each call answers and leaves what the definitions say of it. An impl that says more repeats these
-// clauses, since its own replace the trait's.
+/// A board means an image. Each call answers and leaves what the definitions say of it. An impl that says more repeats these
+/// clauses, since its own replace the trait's.
 pub trait Board {
     // The cells in order.
     ghost image: { Self → Image };
 
     // What it was given when it was made: no call puts another in the place of it.
+    ghost Lent: { Type 0 };
+
     ghost lent: { Self → Lent };
 
-    // The number of cells.
+    /// The number of cells.
     fn size(&mut self) -> usize
         ensures answer { result ≡ length (image self.old) }
         ensures few { result ≤ most }
         ensures same { image self.new ≡ image self.old }
         ensures lent { lent self.new ≡ lent self.old };
 
-    // The first fenced place among `count` places from `start` on: asked in the shape of a read and a write, whose count is the
-    // length of what they take, and so by no `Range`.
+    /// The first fenced place among `count` places from `start` on: asked in the shape of a read and a write, whose count is the
+    /// length of what they take, and so by no `Range`.
     fn first_fence(&mut self, start: usize, count: usize) -> Result<Option<usize>, Refusal>
         ensures answer { result ≡ fence_result (image self.old) start count }
         ensures same { image self.new ≡ image self.old }
         ensures lent { lent self.new ≡ lent self.old };
 
-    // Fills the buffer with the bytes from `start` on; a refused read leaves it.
+    /// Fills the buffer with the bytes from `start` on; a refused read leaves it.
     fn read(&mut self, start: usize, buffer: &mut [u8]) -> Result<(), Refusal>
         ensures answer { result ≡ read_result (image self.old) start (length buffer.old) }
         ensures filled { buffer.new ≡ read_into (image self.old) start buffer.old }
         ensures same { image self.new ≡ image self.old }
         ensures lent { lent self.new ≡ lent self.old };
 
-    // Puts all bytes from `start` on, or none.
+    /// Puts all bytes from `start` on, or none.
     fn write(&mut self, start: usize, bytes: &[u8]) -> Result<(), Refusal>
         ensures answer { result ≡ write_result (image self.old) start bytes.now }
         ensures after { image self.new ≡ written (image self.old) start bytes.now }
@@ -67,9 +69,11 @@ pub trait Board {
 
 // A board that is lent is a board.
 impl<B: Board> Board for &mut B {
-    ghost image = { λ s. B.Board.image s.now };
+    ghost image = { λ s. B.image s.now };
 
-    ghost lent = { λ s. through s.ghost_name (B.Board.lent s.now) };
+    ghost Lent = { GName × B.Lent };
+
+    ghost lent = { λ s. (s.ghost_name, B.lent s.now) };
 
     fn size(&mut self) -> usize {
         (**self).size()

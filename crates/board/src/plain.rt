@@ -1,21 +1,21 @@
 ghost use Rattle.std.specs.Prelude.{◌≡◌, ◌≤◌, length, take};
-ghost use Rattle.image.specs.Images.{most};
-ghost use Rattle.image.specs.Results.{fence_result, read_result, read_into, write_result, written};
-ghost use Rattle.image.specs.Layers.{plain};
-ghost use Rattle.image.specs.Lent.{one};
+ghost use Rattle.board_model.specs.Images.{most};
+ghost use Rattle.board_model.specs.Results.{fence_result, read_result, read_into, write_result, written};
+ghost use Rattle.board_model.specs.Layers.{plain};
+ghost use Rattle.std.specs.Borrow.{GName};
 ghost use Rattle.board.specs.Plains.{plain_image, memory_after};
 
 use crate::{Board, MOST, check_range};
 use datasheet::Refusal;
 
-// Plain memory: the first 1,048,576 bytes of lent memory, all free.
+/// Plain memory: the first 1,048,576 bytes of lent memory, all free.
 #[derive(Drop)]
 pub struct Plain<'m> {
     memory: &'m mut [u8],
 }
 
 impl<'m> Plain<'m> {
-    // A board over lent memory.
+    /// A board over lent memory.
     pub fn new(memory: &'m mut [u8]) -> Plain<'m>
         ensures memory { result.memory.now ≡ memory.old }
         ensures lent { result.memory.ghost_name ≡ memory.entry.ghost_name }
@@ -23,7 +23,7 @@ impl<'m> Plain<'m> {
         Plain { memory }
     }
 
-    // The bytes that are cells.
+    /// The bytes that are cells.
     fn cells(&self) -> &[u8]
         ensures { result.now ≡ take most self.now.memory.now }
     {
@@ -35,13 +35,15 @@ impl<'m> Plain<'m> {
 impl Board for Plain<'_> {
     ghost image = { plain_image };
 
-    ghost lent = { λ s. one s.memory.ghost_name };
+    ghost Lent = { GName };
+
+    ghost lent = { λ s. s.memory.ghost_name };
 
     fn size(&mut self) -> usize
         ensures answer { result ≡ length (plain_image self.old) }
         ensures few { result ≤ most }
         ensures same { plain_image self.new ≡ plain_image self.old }
-        ensures lent { one self.new.memory.ghost_name ≡ one self.old.memory.ghost_name }
+        ensures lent { self.new.memory.ghost_name ≡ self.old.memory.ghost_name }
         ensures memory { self.new.memory.now ≡ self.old.memory.now }
     {
         self.cells().len()
@@ -50,7 +52,7 @@ impl Board for Plain<'_> {
     fn first_fence(&mut self, start: usize, count: usize) -> Result<Option<usize>, Refusal>
         ensures answer { result ≡ fence_result (plain_image self.old) start count }
         ensures same { plain_image self.new ≡ plain_image self.old }
-        ensures lent { one self.new.memory.ghost_name ≡ one self.old.memory.ghost_name }
+        ensures lent { self.new.memory.ghost_name ≡ self.old.memory.ghost_name }
         ensures memory { self.new.memory.now ≡ self.old.memory.now }
     {
         check_range(start, count, self.cells().len())?;
@@ -61,7 +63,7 @@ impl Board for Plain<'_> {
         ensures answer { result ≡ read_result (plain_image self.old) start (length buffer.old) }
         ensures filled { buffer.new ≡ read_into (plain_image self.old) start buffer.old }
         ensures same { plain_image self.new ≡ plain_image self.old }
-        ensures lent { one self.new.memory.ghost_name ≡ one self.old.memory.ghost_name }
+        ensures lent { self.new.memory.ghost_name ≡ self.old.memory.ghost_name }
         ensures memory { self.new.memory.now ≡ self.old.memory.now }
     {
         let cells = self.cells();
@@ -73,7 +75,7 @@ impl Board for Plain<'_> {
     fn write(&mut self, start: usize, bytes: &[u8]) -> Result<(), Refusal>
         ensures answer { result ≡ write_result (plain_image self.old) start bytes.now }
         ensures after { plain_image self.new ≡ written (plain_image self.old) start bytes.now }
-        ensures lent { one self.new.memory.ghost_name ≡ one self.old.memory.ghost_name }
+        ensures lent { self.new.memory.ghost_name ≡ self.old.memory.ghost_name }
         ensures memory { self.new.memory.now ≡ memory_after self.old.memory.now start bytes.now }
     {
         check_range(start, bytes.len(), self.cells().len())?;
@@ -82,8 +84,8 @@ impl Board for Plain<'_> {
     }
 }
 
-// Writes bytes into lent memory as to a board over it; what the memory holds then is known to its owner, and bytes past the
-// limit are untouched.
+/// Writes bytes into lent memory as to a board over it; what the memory holds then is known to its owner, and bytes past the
+/// limit are untouched.
 pub fn write_plain(memory: &mut [u8], start: usize, bytes: &[u8]) -> Result<(), Refusal>
     ensures answer { result ≡ write_result (plain memory.old) start bytes.now }
     ensures memory { memory.new ≡ memory_after memory.old start bytes.now }

@@ -1,23 +1,23 @@
-// Runs the board script on standard input, of which it takes the first 4,096 bytes, on the board that a driver makes of an
-// MB85RS64VY with t 03h, f 02h, memory and status zero. It writes the answer bytes; or, where the script has a fault, 7Eh, the
-// number of the refusal and the place of the kind byte in two bytes.
+//! Runs the board script on standard input, of which it takes the first 4,096 bytes, on the board that a driver makes of an
+//! MB85RS64VY with t 03h, f 02h, memory and status zero. It writes the answer bytes; or, where the script has a fault, 7Eh, the
+//! number of the refusal and the place of the kind byte in two bytes.
 #![tactic(auto)]
 
 ghost use Rattle.std.specs.Prelude.{◌≡◌};
 ghost use Rattle.board_script.specs.Faults.{fault_bytes};
 
 use datasheet::{Part, Sheet};
-use reports::{Report, board_report};
+use script_reports::{Report, board_report};
 use std::io;
 use std::io::{Read, Write};
 
-// The bytes of a script that are taken.
+/// The bytes of a script that are taken.
 const MOST: usize = 4096;
 
-// The cells of an MB85RS64VY.
+/// The cells of an MB85RS64VY.
 const CELLS: usize = 8192;
 
-// What is written of a script with a fault.
+/// What is written of a script with a fault.
 fn fault_bytes(report: Report) -> [u8; 4]
     ensures { result ≡ fault_bytes report }
 {

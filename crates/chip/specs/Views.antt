@@ -4,9 +4,9 @@ use Rattle.datasheet.specs.declared.registers.Registers.{Registers}
 use Rattle.datasheet.specs.declared.level.Level.{Level}
 use Rattle.datasheet.specs.Sheets.{fits}
 use Rattle.datasheet.specs.Records.{Record}
-use Rattle.datasheet.specs.Chips.{Pins, deselected, selected}
-use Rattle.datasheet.specs.Calls.{Chip as ChipOfRules}
-use Rattle.spi.specs.Steps.{Moment}
+use Rattle.datasheet.specs.Chips.{PinState, deselected, selected}
+use Rattle.datasheet.specs.Calls.{ChipState}
+use Rattle.spi_model.specs.Moments.{Moment}
 use Rattle.chip.specs.declared.session.Session.{Session}
 use Rattle.chip.specs.declared.chip.Chip.{Chip}
 use Rattle.chip.specs.Held.{held}
@@ -16,13 +16,19 @@ abbrev pub record_of : Chip → Record
 record_of c = held c.memory.now c.status
 
 -- its pins
-abbrev pub pins_of : Option Session → Pins Registers
+abbrev pub pins_of : Option Session → PinState Registers
 pins_of None = deselected
-pins_of (Some x) = selected x.sck x.hold x.kept x.so
+pins_of (Some x) = selected (record { sck = x.sck; hold = x.hold; kept = x.kept; so = x.so })
 
 -- the whole chip
-abbrev pub chip_of : Chip → ChipOfRules Registers
-chip_of c = record { sheet = c.sheet; fitted = fits c.sheet c.memory.now; rec = record_of c; pins = pins_of c.session }
+abbrev pub chip_of : Chip → ChipState Registers
+chip_of c =
+    record {
+      sheet = c.sheet;
+      fitted = fits c.sheet c.memory.now;
+      rec = record_of c;
+      pins = pins_of c.session;
+    }
 
 -- the moment that it is at in a session of which this is kept, while SO shows so
 abbrev pub moment_of : Chip → Registers → Level → Moment Registers
@@ -32,7 +38,8 @@ moment_of c k so = record { rec = record_of c; kept = k; so = so }
 abbrev pub Resting : Chip → Type 0
 Resting c = (fits c.sheet c.memory.now ≡ true) × (c.session ≡ None)
 
--- all but the record is the same: the chip is the same one, over the same lent memory, and its pins are as they were
+-- all but the record is the same: the chip is the same one, over the same lent memory, and its pins are as
+-- they were
 pub record SameButRecord (c d : Chip) : Type 0 where
   pub sheet : d.sheet ≡ c.sheet
   pub session : d.session ≡ c.session

@@ -1,7 +1,7 @@
-// The chip at its pins: parked without power, or powered over lent memory.
-//
-// What it promises: every sample and every power cycle answers and leaves what the definitions say, a refused sample leaves
-// every field, and whoever lent the memory knows its bytes when power has been taken away.
+//! The chip at its pins: parked without power, or powered over lent memory.
+//!
+//! What it promises: every sample and every power cycle answers and leaves what the definitions say, a refused sample leaves
+//! every field, and whoever lent the memory knows its bytes when power has been taken away.
 #![tactic(auto)]
 
 mod chip;
@@ -11,4 +11,4 @@ mod status;
 mod stored;
 
 pub use chip::{Chip, ParkedChip};
-pub use pins::{Pins, Steps};
+pub use pins::{Pins, Stepped};

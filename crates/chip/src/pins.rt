@@ -2,10 +2,10 @@
 ghost use Rattle.std.specs.Prelude.{◌≡◌};
 ghost use Rattle.datasheet.specs.declared.registers.Registers.{Registers};
 ghost use Rattle.datasheet.specs.declared.sample.Sample.{Sample};
-ghost use Rattle.datasheet.specs.Calls.{Chip as ChipOfRules, so, put};
+ghost use Rattle.datasheet.specs.Calls.{ChipState, so, put};
 ghost use Rattle.datasheet.specs.Kept.{bounded};
-ghost use Rattle.spi.specs.Stepping.{stepped_by, step_read};
-ghost use Rattle.spi.specs.Lent.{Lent, memory, through};
+ghost use Rattle.spi_model.specs.SteppedChips.{stepped_by, step_read};
+ghost use Rattle.std.specs.Borrow.{GName};
 ghost use Rattle.datasheet.specs.Memory.{SoundMemory};
 ghost use Rattle.chip.specs.Sound.{sound};
 ghost use Rattle.chip.specs.Views.{chip_of};
@@ -13,10 +13,10 @@ ghost use Rattle.chip.specs.Views.{chip_of};
 use crate::chip::Chip;
 use datasheet::{Level, Sample};
 
-// What takes samples: a chip, or whatever a chip is wired to.
+/// What takes samples: a chip, or whatever a chip is wired to.
 pub trait Pins {
     // The chip behind the pins.
-    ghost chip: { Self → ChipOfRules Registers };
+    ghost chip: { Self → ChipState Registers };
 
     // Its memory holds bytes, and it is fitted exactly if these are as many as its sheet says.
     ghost sound: { (s : Self) → SoundMemory (chip s).sheet (chip s).fitted (chip s).rec.memory };
@@ -29,9 +29,11 @@ pub trait Pins {
     ghost traced: { Trace → Sample → Trace };
 
     // The references through which the chip is reached: no call puts another in the place of one.
+    ghost Lent: { Type 0 };
+
     ghost lent: { Self → Lent };
 
-    // Puts a sample, and answers what SO shows then.
+    /// Puts a sample, and answers what SO shows then.
     fn put(&mut self, sample: Sample) -> Level
         ensures shows { result ≡ so (put bounded (chip self.old) sample) }
         ensures state { chip self.new ≡ put bounded (chip self.old) sample }
@@ -39,10 +41,10 @@ pub trait Pins {
         ensures lent { lent self.new ≡ lent self.old };
 }
 
-// What can be stepped by bytes: a byte at once, with no pin moved.
-pub trait Steps: Pins {
-    // In a session of whole bytes, SCK low and HOLD high, takes a byte and answers the byte that is read: the chip is left as by
-    // the rises and falls of that byte. Otherwise nothing happens, and FFh is read.
+/// What can be stepped by bytes: a byte at once, with no pin moved.
+pub trait Stepped: Pins {
+    /// In a session of whole bytes, SCK low and HOLD high, takes a byte and answers the byte that is read: the chip is left as by
+    /// the rises and falls of that byte. Otherwise nothing happens, and FFh is read.
     fn step(&mut self, wp: bool, byte: u8) -> u8
         ensures read { result ≡ step_read (Self.Pins.chip self.old) wp byte }
         ensures state { Self.Pins.chip self.new ≡ stepped_by (Self.Pins.chip self.old) wp byte }
@@ -62,15 +64,17 @@ impl Pins for Chip<'_> {
 
     ghost traced = { λ _ _. tt };
 
-    ghost lent = { λ s. memory s.memory.ghost_name };
+    ghost Lent = { GName };
+
+    ghost lent = { λ s. s.memory.ghost_name };
 
     fn put(&mut self, sample: Sample) -> Level {
         Chip::put(self, sample)
     }
 }
 
-impl Steps for Chip<'_> {
-    #[tactic(auto, using(spi::proofs::Stepping::once))]
+impl Stepped for Chip<'_> {
+    #[tactic(auto, using(spi_model::proofs::SteppedChips::once))]
     fn step(&mut self, wp: bool, byte: u8) -> u8 {
         self.step_byte(wp, byte)
     }
@@ -78,24 +82,26 @@ impl Steps for Chip<'_> {
 
 // Pins that are lent.
 impl<P: Pins> Pins for &mut P {
-    ghost chip = { λ s. P.Pins.chip s.now };
+    ghost chip = { λ s. P.chip s.now };
 
-    ghost sound = { λ s. P.Pins.sound s.now };
+    ghost sound = { λ s. P.sound s.now };
 
-    ghost Trace = { P.Pins.Trace };
+    ghost Trace = { P.Trace };
 
-    ghost trace = { λ s. P.Pins.trace s.now };
+    ghost trace = { λ s. P.trace s.now };
 
-    ghost traced = { P.Pins.traced };
+    ghost traced = { P.traced };
 
-    ghost lent = { λ s. through s.ghost_name (P.Pins.lent s.now) };
+    ghost Lent = { GName × P.Lent };
+
+    ghost lent = { λ s. (s.ghost_name, P.lent s.now) };
 
     fn put(&mut self, sample: Sample) -> Level {
         (**self).put(sample)
     }
 }
 
-impl<P: Steps> Steps for &mut P {
+impl<P: Stepped> Stepped for &mut P {
     fn step(&mut self, wp: bool, byte: u8) -> u8 {
         (**self).step(wp, byte)
     }

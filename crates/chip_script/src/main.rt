@@ -1,6 +1,6 @@
-// Runs the chip script on standard input, of which it takes the first 4,096 bytes, on an MB85RS64VY with t 03h, f 02h,
-// memory and status zero. It writes the answer bytes; or, where the script has a fault, 7Eh, the number of the refusal and
-// the place of the kind byte in two bytes.
+//! Runs the chip script on standard input, of which it takes the first 4,096 bytes, on an MB85RS64VY with t 03h, f 02h,
+//! memory and status zero. It writes the answer bytes; or, where the script has a fault, 7Eh, the number of the refusal and
+//! the place of the kind byte in two bytes.
 #![tactic(auto)]
 
 ghost use Rattle.std.specs.Prelude.{◌≡◌};
@@ -12,13 +12,13 @@ use script::{Counts, chip_visit};
 use std::io;
 use std::io::{Read, Write};
 
-// The bytes of a script that are taken.
+/// The bytes of a script that are taken.
 const MOST: usize = 4096;
 
-// The cells of an MB85RS64VY.
+/// The cells of an MB85RS64VY.
 const CELLS: usize = 8192;
 
-// What is written of a script with a fault.
+/// What is written of a script with a fault.
 fn fault_bytes(refusal: Refusal) -> [u8; 4]
     ensures { result ≡ fault_bytes refusal }
 {

@@ -1,4 +1,5 @@
--- Bits and numbers. A list of bits stands for a number with its highest bit first, the order in which SI and SO carry bits.
+-- Bits and numbers. A list of bits stands for a number with its highest bit first, the order in which SI and
+-- SO carry bits.
 use Rattle.std.specs.Prelude.{ℕ, zero, suc, ◌+◌, ◌*◌, ◌/◌, ◌%◌, ◌^◌, Bool, true, false, List, [], ◌∷◌, length, take, drop, ◌==◌}
 
 -- a bit as a number

@@ -1,6 +1,7 @@
--- The pins of a fitted chip: how a sample is judged by the last sample and the session together. This is the same whatever
--- is kept of a session's bits, so it is written once, over a `Keeping`. `whole` keeps every bit and is the rules.
-use Rattle.std.specs.Prelude.{Bool, true, false, cond, ◌&&◌, List, [], ◌∷◌, ◌++◌}
+-- The pins of a fitted chip: how a sample is judged by the last sample and the session together. This is the
+-- same whatever is kept of a session's bits, so it is written once, over a `Keeping`. `whole` keeps every bit
+-- and is the rules.
+use Rattle.std.specs.Prelude.{Bool, if◌then◌else◌, not, ◌&&◌, List, [], ◌∷◌, ◌++◌}
 use Rattle.datasheet.specs.declared.sheet.Sheet.{Sheet}
 use Rattle.datasheet.specs.declared.level.Level.{Level}
 use Rattle.datasheet.specs.declared.level.Level.TheVariants.{HighZ}
@@ -12,23 +13,23 @@ use Rattle.datasheet.specs.Ends.{after_end}
 
 -- what is kept of a session, and the rules that read it
 pub record Keeping : Type 1 where
-  pub Session : Type 0
+  pub Kept : Type 0
   -- no bit taken
-  pub begin : Session
+  pub begin : Kept
   -- one bit more
-  pub more : Sheet → Session → Bool → Session
+  pub more : Sheet → Kept → Bool → Kept
   -- the record after a rise that takes this bit, with WP at this level
-  pub rises : Sheet → Bool → Record → Session → Bool → Record
+  pub rises : Sheet → Bool → Record → Kept → Bool → Record
   -- SO after a fall
-  pub shows : Sheet → Record → Session → Level
+  pub shows : Sheet → Record → Kept → Level
   -- the record after the end of the session
-  pub ends : Sheet → Record → Session → Record
+  pub ends : Sheet → Record → Kept → Record
 
 -- every bit is kept, the first bit first
 abbrev pub whole : Keeping
 whole =
     record {
-      Session = List Bool;
+      Kept = List Bool;
       begin = [];
       more = λ s bits b. bits ++ b ∷ [];
       rises = λ s wp r bits b. after_rise s wp r (bits ++ b ∷ []);
@@ -36,56 +37,78 @@ whole =
       ends = after_end;
     }
 
--- deselected: CS was high; or selected, with the last levels of SCK and HOLD, the session, and what SO shows while HOLD is
--- high
-pub data Pins (S : Type 0) : Type 0 where
-  deselected : Pins S
-  selected : Bool → Bool → S → Level → Pins S
+-- an open session: the last levels of SCK and HOLD, what is kept of its bits, and what SO shows while HOLD is
+-- high; CS was low
+pub record OpenSession (S : Type 0) : Type 0 where
+  pub sck : Bool
+  pub hold : Bool
+  pub kept : S
+  pub so : Level
+
+-- deselected: CS was high; or selected, in an open session
+pub data PinState (S : Type 0) : Type 0 where
+  deselected : PinState S
+  selected : OpenSession S → PinState S
 
 -- what a sample leaves: the record and the pins
 pub record Turn (S : Type 0) : Type 0 where
   pub rec : Record
-  pub pins : Pins S
+  pub pins : PinState S
 
-abbrev pub turn : {S : Type 0} → Record → Pins S → Turn S
+abbrev pub turn : {S : Type 0} → Record → PinState S → Turn S
 turn r p = record { rec = r; pins = p }
 
 module _ (K : Keeping) (s : Sheet) where
-  -- CS low and HOLD high in both samples; SCK was at the one level and is at the other. In a session that began asleep
-  -- nothing is taken and SO is not driven
-  abbrev pub edge : Record → K.Session → Level → Bool → Bool → Sample → Turn K.Session
-  -- a rise takes SI as the next bit, and leaves SO
-  edge r k so false true x =
-      cond r.asleep
-      (turn r (selected true true k so))
-      (turn (K.rises s x.wp r k x.si) (selected true true (K.more s k x.si) so))
-  -- a fall sets SO, and takes nothing
-  edge r k so true false x = turn r (selected false true k (cond r.asleep HighZ (K.shows s r k)))
-  edge r k so false false x = turn r (selected false true k so)
-  edge r k so true true x = turn r (selected true true k so)
+  -- ## What a session does, in a chip that is awake and in one that it found asleep
 
-  -- the end of a session wakes a sleeping chip, and does no more there
-  abbrev pub closed : Record → K.Session → Record
-  closed r k = cond r.asleep (waking r) (K.ends s r k)
+  -- the record after a rise that takes this bit, with WP at this level, and what is kept then; asleep nothing
+  -- is taken
+  abbrev pub rising : Bool → Record → K.Kept → Bool → Record
+  rising wp r k b = if r.asleep then r else K.rises s wp r k b
+
+  abbrev pub keeping : Record → K.Kept → Bool → K.Kept
+  keeping r k b = if r.asleep then k else K.more s k b
+
+  -- what a fall sets SO to; asleep SO is not driven
+  abbrev pub falling : Record → K.Kept → Level
+  falling r k = if r.asleep then HighZ else K.shows s r k
+
+  -- the record after the end of the session, which wakes a sleeping chip and does no more there
+  abbrev pub closed : Record → K.Kept → Record
+  closed r k = if r.asleep then waking r else K.ends s r k
+
+  -- ## A sample
+
+  -- CS low and HOLD high in both samples, SCK at the level sck in the last one: `now` is the session at the
+  -- levels of the new sample x
+  abbrev pub edge : Record → Bool → OpenSession K.Kept → Sample → Turn K.Kept
+  edge r sck now x =
+      -- a rise takes SI as the next bit, and leaves SO
+      if not sck && x.sck
+      then turn (rising x.wp r now.kept x.si) (selected (record now { kept = keeping r now.kept x.si }))
+      -- a fall sets SO, and takes nothing
+      else if sck && not x.sck
+      then turn r (selected (record now { so = falling r now.kept }))
+      -- SCK as before does nothing
+      else turn r (selected now)
 
   -- the new sample x, judged by the last one and the session together
-  abbrev pub judged : Record → Pins K.Session → Sample → Turn K.Session
+  abbrev pub judged : Record → PinState K.Kept → Sample → Turn K.Kept
   judged r deselected x =
-      cond x.cs
-      -- still deselected
-      (turn r deselected)
+      -- deselected, and still so
+      if x.cs then turn r deselected
       -- a session begins with no bit taken, SO is high-Z, and no clock edge counts
-      (turn r (selected x.sck x.hold K.begin HighZ))
-  judged r (selected sck hold k so) x =
-      cond x.cs
+      else turn r (selected (record { sck = x.sck; hold = x.hold; kept = K.begin; so = HighZ }))
+  judged r (selected last) x =
+      let now : OpenSession K.Kept = record last { sck = x.sck; hold = x.hold } in
       -- the session ends
-      (turn (closed r k) deselected)
-      -- HOLD high in both: an edge of SCK counts; HOLD low in either: none does
-      (cond (hold && x.hold)
-      (edge r k so sck x.sck x)
-      (turn r (selected x.sck x.hold k so)))
+      if x.cs then turn (closed r last.kept) deselected
+      -- HOLD high in both: an edge of SCK counts
+      else if last.hold && x.hold then edge r last.sck now x
+      -- HOLD low in either: none does
+      else turn r (selected now)
 
 -- SO: high-Z while deselected and while HOLD is low; at release it shows what it showed before
-abbrev pub output : {S : Type 0} → Pins S → Level
+abbrev pub output : {S : Type 0} → PinState S → Level
 output deselected = HighZ
-output (selected sck hold k so) = cond hold so HighZ
+output (selected o) = if o.hold then o.so else HighZ

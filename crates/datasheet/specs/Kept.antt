@@ -1,7 +1,9 @@
--- What a chip of bounded size keeps of a session: a bit counter, the op-code, an address counter and a shift register.
-use Rattle.std.specs.Prelude.{ℕ, ◌+◌, ◌*◌, ◌%◌, Bool, cond, ◌&&◌, List, length, ◌==◌, nat_le, nat_lt}
+-- What a chip of bounded size keeps of a session: a bit counter, the op-code, an address counter and a shift
+-- register.
+use Rattle.std.specs.Prelude.{ℕ, ◌+◌, ◌*◌, ◌%◌, Bool, if◌then◌else◌, ◌&&◌, List, length, ◌==◌, nat_le, nat_lt, Option}
 use Rattle.datasheet.specs.declared.registers.Registers.{Registers}
 use Rattle.datasheet.specs.declared.sheet.Sheet.{Sheet}
+use Rattle.datasheet.specs.declared.command.Command.{Command}
 use Rattle.datasheet.specs.declared.level.Level.{Level}
 use Rattle.datasheet.specs.Bits.{bit, number, byte_after}
 use Rattle.datasheet.specs.Sheets.{cells}
@@ -11,14 +13,14 @@ use Rattle.datasheet.specs.Sessions.{command, cell_at}
 use Rattle.datasheet.specs.Rises.{effect}
 use Rattle.datasheet.specs.Falls.{shown}
 use Rattle.datasheet.specs.Ends.{ended}
-use Rattle.datasheet.specs.Chips.{Keeping, Pins, deselected, selected}
-use Rattle.datasheet.specs.Calls.{Chip}
+use Rattle.datasheet.specs.Chips.{Keeping, PinState, deselected, selected}
+use Rattle.datasheet.specs.Calls.{ChipState}
 
 -- ## What is kept
 
 -- the bit counter: it counts to 47, and from there goes on at 40
 abbrev pub counted : ℕ → ℕ
-counted n = cond (nat_lt n 48) n (40 + n % 8)
+counted n = if nat_lt n 48 then n else 40 + n % 8
 
 -- what is kept of these bits
 abbrev pub kept : Sheet → List Bool → Registers
@@ -31,11 +33,11 @@ kept s bits =
     }
 
 -- a chip that keeps this of its session
-abbrev pub kept_pins : Sheet → Pins (List Bool) → Pins Registers
+abbrev pub kept_pins : Sheet → PinState (List Bool) → PinState Registers
 kept_pins s deselected = deselected
-kept_pins s (selected sck hold bits so) = selected sck hold (kept s bits) so
+kept_pins s (selected o) = selected (record { sck = o.sck; hold = o.hold; kept = kept s o.kept; so = o.so })
 
-abbrev pub kept_chip : Chip (List Bool) → Chip Registers
+abbrev pub kept_chip : ChipState (List Bool) → ChipState Registers
 kept_chip c = record { sheet = c.sheet; fitted = c.fitted; rec = c.rec; pins = kept_pins c.sheet c.pins }
 
 -- ## How it is kept, bit by bit
@@ -48,19 +50,27 @@ cleared = record { count = 0; code = 0; place = 0; shift = 0 }
 abbrev pub turns : ℕ → ℕ → Bool
 turns first n = nat_le (first + 7) n && (n + 1) % 8 == 0
 
--- the address counter after one bit more: bits 9 to 24 are shifted in, and each whole data byte leads one cell on
+-- the command of a session of which this is kept
+abbrev pub command_in : Sheet → Registers → Option Command
+command_in s k = command_at s k.count k.code
+
+-- the address counter after one bit more
 abbrev pub moved : Sheet → Registers → Bool → ℕ
 moved s k b =
-    cond (nat_lt k.count 8) k.place
-    (cond (nat_lt k.count 24) ((2 * k.place + bit b) % cells s)
-    (cond (turns (first_data (command_at s k.count k.code)) k.count) ((k.place + 1) % cells s) k.place))
+    -- the op-code leaves it
+    if nat_lt k.count 8 then k.place
+    -- bits 9 to 24 are shifted in
+    else if nat_lt k.count 24 then (2 * k.place + bit b) % cells s
+    -- each whole data byte leads one cell on
+    else if turns (first_data (command_in s k)) k.count then (k.place + 1) % cells s
+    else k.place
 
 -- one bit more
 abbrev pub taken : Sheet → Registers → Bool → Registers
 taken s k b =
     record {
-      count = cond (nat_le 47 k.count) 40 (k.count + 1);
-      code = cond (nat_lt k.count 8) ((2 * k.code + bit b) % 256) k.code;
+      count = if nat_le 47 k.count then 40 else k.count + 1;
+      code = if nat_lt k.count 8 then (2 * k.code + bit b) % 256 else k.code;
       place = moved s k b;
       shift = (2 * k.shift + bit b) % 256;
     }
@@ -70,18 +80,18 @@ taken s k b =
 abbrev pub rise_kept : Sheet → Bool → Record → Registers → Bool → Record
 rise_kept s wp r k b =
     let next : Registers = taken s k b in
-    effect s (command_at s next.count next.code) wp r next.count k.place next.shift
+    effect s (command_in s next) wp r next.count k.place next.shift
 
 abbrev pub fall_kept : Sheet → Record → Registers → Level
-fall_kept s r k = shown s (command_at s k.count k.code) r k.count k.place
+fall_kept s r k = shown s (command_in s k) r k.count k.place
 
 abbrev pub end_kept : Sheet → Record → Registers → Record
-end_kept s r k = ended s (command_at s k.count k.code) r k.count
+end_kept s r k = ended s (command_in s k) r k.count
 
 abbrev pub bounded : Keeping
 bounded =
     record {
-      Session = Registers;
+      Kept = Registers;
       begin = cleared;
       more = taken;
       rises = rise_kept;

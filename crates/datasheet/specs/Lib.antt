@@ -1,4 +1,6 @@
 pub mod Bits
+pub mod Machines
+pub mod Alike
 pub mod Levels
 pub mod Refusals
 pub mod Sheets

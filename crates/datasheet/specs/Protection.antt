@@ -1,5 +1,5 @@
 -- What may be written.
-use Rattle.std.specs.Prelude.{ℕ, ◌-◌, ◌/◌, ◌%◌, Bool, cond, not, ◌&&◌, ◌==◌, nat_le}
+use Rattle.std.specs.Prelude.{ℕ, ◌-◌, ◌/◌, ◌%◌, Bool, if◌then◌else◌, not, ◌&&◌, ◌==◌, nat_le}
 use Rattle.datasheet.specs.declared.sheet.Sheet.{Sheet}
 use Rattle.datasheet.specs.Sheets.{cells}
 use Rattle.datasheet.specs.Records.{Record, wpen}
@@ -8,13 +8,17 @@ use Rattle.datasheet.specs.Records.{Record, wpen}
 abbrev pub block_protect : Record → ℕ
 block_protect r = r.stored / 4 % 4
 
--- the first protected cell, all after it being protected too: 01 protects the upper quarter of the cells, 10 the upper
--- half, 11 all, 00 none
+-- the first protected cell, all after it being protected too
 abbrev pub first_protected : Sheet → Record → ℕ
 first_protected s r =
-    cond (block_protect r == 0) (cells s)
-    (cond (block_protect r == 1) (cells s - cells s / 4)
-    (cond (block_protect r == 2) (cells s / 2) 0))
+    -- 00: no cell is protected
+    if block_protect r == 0 then cells s
+    -- 01: the upper quarter of the cells
+    else if block_protect r == 1 then cells s - cells s / 4
+    -- 10: the upper half
+    else if block_protect r == 2 then cells s / 2
+    -- 11: all
+    else 0
 
 abbrev pub protected : Sheet → Record → ℕ → Bool
 protected s r a = nat_le (first_protected s r) a

@@ -3,7 +3,7 @@ use Rattle.std.specs.Prelude.{ℕ, ◌+◌, ◌-◌, ◌*◌, ◌%◌, Bool, tru
 use Rattle.datasheet.specs.Bits.{bit, bit_at}
 
 -- memory: its cells, a byte each
--- stored: the stored status bits 7 to 2 as a byte, bits 1 and 0 of it being 0; 7 is WPEN, 3 and 2 are BP1 and BP0
+-- stored: the stored status bits 7 to 2 as a byte, its bits 1 and 0 being 0; 7 is WPEN, 3 is BP1, 2 is BP0
 -- latch: the write latch WEL
 -- asleep: the sleep mark
 pub record Record : Type 0 where
@@ -26,20 +26,20 @@ stored_bits x = x - x % 4
 
 -- the record with WEL at b
 abbrev pub latched : Bool → Record → Record
-latched b r = record { memory = r.memory; stored = r.stored; latch = b; asleep = r.asleep }
+latched b r = record r { latch = b }
 
 -- with bits 7 to 2 of x stored
 abbrev pub storing : ℕ → Record → Record
-storing x r = record { memory = r.memory; stored = stored_bits x; latch = r.latch; asleep = r.asleep }
+storing x r = record r { stored = stored_bits x }
 
 -- with x in cell a
 abbrev pub writing : ℕ → ℕ → Record → Record
-writing a x r = record { memory = slice_set r.memory a x; stored = r.stored; latch = r.latch; asleep = r.asleep }
+writing a x r = record r { memory = slice_set r.memory a x }
 
 -- fallen asleep: WEL is cleared
 abbrev pub falling_asleep : Record → Record
-falling_asleep r = record { memory = r.memory; stored = r.stored; latch = false; asleep = true }
+falling_asleep r = record r { latch = false; asleep = true }
 
 -- awake again
 abbrev pub waking : Record → Record
-waking r = record { memory = r.memory; stored = r.stored; latch = r.latch; asleep = false }
+waking r = record r { asleep = false }

@@ -19,11 +19,4 @@ refusal_number ShortBuffer = 10
 abbrev pub refusal_place : Refusal → Option ℕ
 refusal_place (UnknownKind place) = Some place
 refusal_place (ShortStep place) = Some place
-refusal_place NoSheet = None
-refusal_place MemoryLength = None
-refusal_place NotASample = None
-refusal_place OutOfRange = None
-refusal_place Fenced = None
-refusal_place UnknownId = None
-refusal_place ShieldFull = None
-refusal_place ShortBuffer = None
+refusal_place _ = None

@@ -1,5 +1,5 @@
 -- A sample: one reading of the five input pins, as a byte.
-use Rattle.std.specs.Prelude.{ℕ, ◌+◌, ◌*◌, cond, Ok, Err, Result, nat_lt}
+use Rattle.std.specs.Prelude.{ℕ, ◌+◌, ◌*◌, if◌then◌else◌, Ok, Err, Result, nat_lt}
 use Rattle.datasheet.specs.declared.sample.Sample.{Sample}
 use Rattle.datasheet.specs.declared.refusal.Refusal.{Refusal}
 use Rattle.datasheet.specs.declared.refusal.Refusal.TheVariants.{NotASample}
@@ -11,7 +11,7 @@ levels x = record { cs = bit_at 0 x; sck = bit_at 1 x; si = bit_at 2 x; wp = bit
 
 -- a byte as a sample: one with a bit 5, 6 or 7 is refused
 abbrev pub sample_of : ℕ → Result Sample Refusal
-sample_of x = cond (nat_lt x 32) (Ok (levels x)) (Err NotASample)
+sample_of x = if nat_lt x 32 then Ok (levels x) else Err NotASample
 
 -- the byte of a sample
 abbrev pub byte_of : Sample → ℕ

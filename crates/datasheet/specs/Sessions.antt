@@ -14,7 +14,7 @@ command s bits = command_at s (length bits) (byte_after 0 bits)
 abbrev pub address : Sheet → List Bool → ℕ
 address s bits = number (take 16 (drop 8 bits)) % cells s
 
--- the cell that the session has come to, where data byte 0 begins after `from` bits: each whole data byte leads one cell
--- on, and from the last cell to cell 0
+-- the cell that the session has come to, where data byte 0 begins after `from` bits: each whole data byte
+-- leads one cell on, and from the last cell to cell 0
 abbrev pub cell_at : Sheet → ℕ → List Bool → ℕ
 cell_at s from bits = (address s bits + (length bits - from) / 8) % cells s

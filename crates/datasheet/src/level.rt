@@ -3,8 +3,8 @@ ghost use Rattle.datasheet.specs.Levels.{level_number, level_name, driven, read_
 
 use std::fmt;
 
-// What the pin SO shows.
-#[derive(Clone, Copy, Debug, Drop, PartialEq, Eq)]
+/// What the pin SO shows.
+#[derive(Clone, Copy, Debug, PartialEq, Eq)]
 pub enum Level {
     Low,
     High,
@@ -12,7 +12,7 @@ pub enum Level {
 }
 
 impl Level {
-    // The bit that is read off SO; high-Z is read as 1. It is no conversion, since two levels give one bit.
+    /// The bit that is read off SO; high-Z is read as 1. It is no conversion, since two levels give one bit.
     pub fn bit(self) -> bool
         ensures { result ≡ read_as self }
     {

@@ -1,7 +1,7 @@
-// The terms of the data sheets of the SPI FRAM chips MB85RS64VY, MB85RS128TY and MB85RS256B, as types, with the
-// definitions that the contracts of every stage cite (specs/).
-//
-// What it promises: each call answers the value that its definition gives, and a sheet has d from 1 to 5 by its type.
+//! The terms of the data sheets of the SPI FRAM chips MB85RS64VY, MB85RS128TY and MB85RS256B, as types, with the
+//! definitions that the contracts of every stage cite (specs/).
+//!
+//! What it promises: each call answers the value that its definition gives, and a sheet has d from 1 to 5 by its type.
 #![tactic(auto)]
 
 mod command;

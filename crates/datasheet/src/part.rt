@@ -3,8 +3,8 @@ ghost use Rattle.datasheet.specs.Parts.{density, marks};
 
 use crate::sheet::Marks;
 
-// The parts whose data sheets this model follows.
-#[derive(Clone, Copy, Drop)]
+/// The parts whose data sheets this model follows.
+#[derive(Clone, Copy, Debug, PartialEq, Eq)]
 pub enum Part {
     Mb85rs64vy,
     Mb85rs128ty,
@@ -12,7 +12,7 @@ pub enum Part {
 }
 
 impl Part {
-    // The density d, the low five bits of the third ID byte.
+    /// The density d, the low five bits of the third ID byte.
     pub(crate) fn density(self) -> u8
         ensures density { result ≡ density self }
         ensures known { (1 ≤ result) × (result ≤ 5) }
@@ -24,7 +24,7 @@ impl Part {
         }
     }
 
-    // In what it differs from other parts besides its size.
+    /// In what it differs from other parts besides its size.
     pub(crate) fn marks(self) -> Marks
         ensures { result ≡ marks self }
     {

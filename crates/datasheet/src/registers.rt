@@ -6,10 +6,10 @@ ghost use Rattle.datasheet.specs.Kept.{cleared, turns, moved, taken};
 use crate::command::Command;
 use crate::sheet::Sheet;
 
-// What a chip keeps of a session: enough for the rules, however long the session is.
-// count: the bits taken so far, up to 47, then from 40 again; code: the op-code; place: the address counter;
-// shift: the last eight bits.
-#[derive(Clone, Copy, Drop)]
+/// What a chip keeps of a session: enough for the rules, however long the session is.
+/// count: the bits taken so far, up to 47, then from 40 again; code: the op-code; place: the address counter;
+/// shift: the last eight bits.
+#[derive(Clone, Copy, Debug, PartialEq, Eq)]
 pub struct Registers {
     pub count: u8,
     pub code: u8,
@@ -18,7 +18,7 @@ pub struct Registers {
 }
 
 impl Registers {
-    // No bit taken.
+    /// No bit taken.
     pub fn cleared() -> Registers
         ensures { result ≡ cleared }
     {
@@ -30,7 +30,7 @@ impl Registers {
         }
     }
 
-    // The command of the session; none before the op-code is whole.
+    /// The command of the session; none before the op-code is whole.
     pub fn command(self, sheet: Sheet) -> Option<Command>
         ensures { result ≡ command_at sheet self.count self.code }
     {
@@ -41,7 +41,7 @@ impl Registers {
         }
     }
 
-    // The number of bits before the first data bit of the session's command.
+    /// The number of bits before the first data bit of the session's command.
     pub fn first_data(self, sheet: Sheet) -> u8
         ensures { result ≡ first_data (command_at sheet self.count self.code) }
     {
@@ -51,7 +51,7 @@ impl Registers {
         }
     }
 
-    // What is kept after one bit more.
+    /// What is kept after one bit more.
     pub fn taken(self, sheet: Sheet, bit: bool) -> Registers
         ensures { result ≡ taken sheet self bit }
     {
@@ -69,7 +69,7 @@ impl Registers {
         }
     }
 
-    // The address counter after one bit more.
+    /// The address counter after one bit more.
     fn moved(self, sheet: Sheet, bit: bool) -> u16
         ensures { result ≡ moved sheet self bit }
     {
@@ -87,14 +87,14 @@ impl Registers {
     }
 }
 
-// A register of eight bits after one bit more: the oldest falls out.
+/// A register of eight bits after one bit more: the oldest falls out.
 fn shifted(register: u8, bit: bool) -> u8
     ensures { result ≡ (2 * register + value_of bit) % 256 }
 {
     (2 * (register % 128)) + u8::from(bit)
 }
 
-// After n bits, where the data begin after `first`, the next bit completes a data byte.
+/// After n bits, where the data begin after `first`, the next bit completes a data byte.
 fn turns(first: u8, n: u8) -> bool
     ensures { result ≡ turns first n }
 {

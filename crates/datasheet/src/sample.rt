@@ -3,8 +3,8 @@ ghost use Rattle.datasheet.specs.Samples.{levels, sample_of, byte_of};
 
 use crate::refusal::Refusal;
 
-// One reading of the five input pins; true is high.
-#[derive(Clone, Copy, Drop)]
+/// One reading of the five input pins; true is high.
+#[derive(Clone, Copy, Debug, PartialEq, Eq)]
 pub struct Sample {
     pub cs: bool,
     pub sck: bool,
@@ -14,7 +14,7 @@ pub struct Sample {
 }
 
 impl Sample {
-    // CS low, a session open: SCK and SI low, WP and HOLD high.
+    /// CS low, a session open: SCK and SI low, WP and HOLD high.
     pub fn selected() -> Sample
         ensures { result ≡ levels 0x18 }
     {
@@ -27,7 +27,7 @@ impl Sample {
         }
     }
 
-    // CS high, no session open; the others as before.
+    /// CS high, no session open; the others as before.
     pub fn deselected() -> Sample
         ensures { result ≡ levels 0x19 }
     {

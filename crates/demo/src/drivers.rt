@@ -1,32 +1,32 @@
 // Chips behind drivers as boards: joined, shielded, and compared with plain memory.
-use crate::{Chips, print_bytes, tell_call, tell_same_boards};
+use crate::{Chips, Refused, print_bytes, tell_call, tell_same_boards};
 use board::Board;
-use bus::{Bus, ByteBus, Line, Setting};
+use board_equality::compare;
+use board_join::Join;
+use board_model::Range;
+use board_shield::Shield;
+use board_window::Window;
 use chip::{Chip, ParkedChip};
 use datasheet::{Part, Refusal, Sample, Sheet};
-use driver::Driver;
-use equality::compare;
-use image::Range;
-use join::Join;
-use logger::Logger;
-use shield::Shield;
-use spi::Mode;
+use spi_bus::{Line, Setting, SpiBus, SteppedBus};
+use spi_driver::Driver;
+use spi_logger::Logger;
+use spi_model::Mode;
 use std::io;
-use window::Window;
 
-// Prints what a driver finds of its chip.
-fn tell_found<B: Bus>(rt: &HostRuntime, what: &str, driver: &mut Driver<B>) -> io::Result<()> {
+/// Prints what a driver finds of its chip.
+fn tell_found<B: SpiBus>(rt: &HostRuntime, what: &str, driver: &mut Driver<B>) -> io::Result<()> {
     let size = driver.size();
     match driver.probe() {
         Ok(d) => println!(rt; "  {what}: the probe finds d = {d}, and there are {size} cells"),
         Err(refusal) => {
-            let number = u8::from(refusal);
-            println!(rt; "  {what}: the probe is refused by {number}, and there are {size} cells")
+            let refused = Refused(refusal);
+            println!(rt; "  {what}: the probe is {refused}, and there are {size} cells")
         }
     }
 }
 
-// Writes bytes to a board and prints what was sent and whether it was accepted.
+/// Writes bytes to a board and prints what was sent and whether it was accepted.
 fn tell_write<B: Board>(
     rt: &HostRuntime,
     board: &mut B,
@@ -38,13 +38,13 @@ fn tell_write<B: Board>(
     match board.write(start, bytes) {
         Ok(()) => println!(rt; ", accepted"),
         Err(refusal) => {
-            let number = u8::from(refusal);
-            println!(rt; ", refused by {number}")
+            let refused = Refused(refusal);
+            println!(rt; ", {refused}")
         }
     }
 }
 
-// Reads six cells of a board and prints them.
+/// Reads six cells of a board and prints them.
 fn tell_read<B: Board>(rt: &HostRuntime, board: &mut B, start: usize) -> io::Result<()> {
     let mut bytes = [0; 6];
     match board.read(start, &mut bytes) {
@@ -54,13 +54,13 @@ fn tell_read<B: Board>(rt: &HostRuntime, board: &mut B, start: usize) -> io::Res
             println!(rt; "")
         }
         Err(refusal) => {
-            let number = u8::from(refusal);
-            println!(rt; "  read at {start}: refused by {number}")
+            let refused = Refused(refusal);
+            println!(rt; "  read at {start}: {refused}")
         }
     }
 }
 
-// Fences two cells of a pile by its shield.
+/// Fences two cells of a pile by its shield.
 fn fence<B: Board>(rt: &HostRuntime, pile: &mut Shield<B>) -> io::Result<()> {
     let cells = Range {
         start: 14330,
@@ -69,7 +69,7 @@ fn fence<B: Board>(rt: &HostRuntime, pile: &mut Shield<B>) -> io::Result<()> {
     tell_call(rt, "range from 14330 of 2", pile.add(cells))
 }
 
-// A pile over two drivers is written across its seam and at its fences, and read back.
+/// A pile over two drivers is written across its seam and at its fences, and read back.
 fn tell_calls<B: Board>(rt: &HostRuntime, pile: &mut B) -> io::Result<()> {
     tell_write(rt, pile, 8190, &[0x27, 0x94, 0x27, 0x9C])?;
     tell_write(rt, pile, 14328, &[0x27, 0xBB])?;
@@ -79,8 +79,8 @@ fn tell_calls<B: Board>(rt: &HostRuntime, pile: &mut B) -> io::Result<()> {
     tell_read(rt, pile, 14327)
 }
 
-// Compares two piles through windows of them, of 12 cells on both sides of the edge of the protected quarter; then one byte of
-// one is written, and the same byte of the other.
+/// Compares two piles through windows of them, of 12 cells on both sides of the edge of the protected quarter; then one byte of
+/// one is written, and the same byte of the other.
 fn tell_likeness<P: Board, Q: Board>(
     rt: &HostRuntime,
     chips: Chips<'_, '_>,
@@ -107,8 +107,8 @@ fn tell_likeness<P: Board, Q: Board>(
     )
 }
 
-// Two piles: a shield over a join of two drivers each.
-fn tell_piles<P: Bus, Q: Bus, R: Bus, S: Bus>(
+/// Two piles: a shield over a join of two drivers each.
+fn tell_piles<P: SpiBus, Q: SpiBus, R: SpiBus, S: SpiBus>(
     rt: &HostRuntime,
     chips: Chips<'_, '_>,
     lower: &mut Driver<P>,
@@ -130,8 +130,8 @@ fn tell_piles<P: Bus, Q: Bus, R: Bus, S: Bus>(
     tell_likeness(rt, chips, &mut left, &mut right)
 }
 
-// A driver over each of four buses, two for a pile.
-fn tell_boards<P: Bus, Q: Bus, R: Bus, S: Bus>(
+/// A driver over each of four buses, two for a pile.
+fn tell_boards<P: SpiBus, Q: SpiBus, R: SpiBus, S: SpiBus>(
     rt: &HostRuntime,
     chips: Chips<'_, '_>,
     first: &mut P,
@@ -155,8 +155,8 @@ fn tell_boards<P: Bus, Q: Bus, R: Bus, S: Bus>(
     )
 }
 
-// Of the first two chips one is reached over a line and one is stepped by bytes; of the other two the other way round, and the
-// line is clocked in another way.
+/// Of the first two chips one is reached over a line and one is stepped by bytes; of the other two the other way round, and the
+/// line is clocked in another way.
 fn tell_chips(
     rt: &HostRuntime,
     chips: Chips<'_, '_>,
@@ -166,8 +166,8 @@ fn tell_chips(
     fourth: &mut Chip<'_>,
 ) -> io::Result<()> {
     let mut held_line = Line::new(first, Setting::new(Mode::Mode3, 1, true));
-    let mut bytes = ByteBus::new(second, true);
-    let mut other_bytes = ByteBus::new(third, true);
+    let mut bytes = SteppedBus::new(second, true);
+    let mut other_bytes = SteppedBus::new(third, true);
     let mut plain_line = Line::new(fourth, Setting::new(Mode::Mode0, 0, true));
     tell_boards(
         rt,
@@ -179,15 +179,15 @@ fn tell_chips(
     )
 }
 
-// The samples, in mode 0 with no held samples, of a line that is made, a driver that is made, and a write of one byte.
+/// The samples, in mode 0 with no held samples, of a line that is made, a driver that is made, and a write of one byte.
 const MOST_LOGGED: usize = 341;
 
-// Writes a byte through a driver.
-fn write_byte<B: Bus>(bus: &mut B) -> Result<(), Refusal> {
+/// Writes a byte through a driver.
+fn write_byte<B: SpiBus>(bus: &mut B) -> Result<(), Refusal> {
     Driver::new(bus).write(0x0102, &[0xC3])
 }
 
-// Writes a byte through a driver over a line, and prints all samples, those of a session in a line.
+/// Writes a byte through a driver over a line, and prints all samples, those of a session in a line.
 fn tell_samples(rt: &HostRuntime, chip: &mut Chip<'_>) -> io::Result<()> {
     println!(rt;
         "A driver over a line in mode 0 is made and writes C3 into cell 0102h: its samples, a line for each session."
@@ -206,7 +206,7 @@ fn tell_samples(rt: &HostRuntime, chip: &mut Chip<'_>) -> io::Result<()> {
     Ok(())
 }
 
-// Four chips as boards, two in a pile.
+/// Four chips as boards, two in a pile.
 pub(crate) fn tell_drivers(rt: &HostRuntime, chips: Chips<'_, '_>) -> io::Result<()> {
     println!(rt;
         "Two chips more, each behind a driver: the first over a line in mode 3 with one held sample before a bit, the second, its upper quarter protected, over a bus that steps it by bytes."

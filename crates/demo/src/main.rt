@@ -1,22 +1,32 @@
-// A visit told in text: what is done to a chip at its pins and over buses, and to boards, and what comes out.
+//! A visit told in text: what is done to a chip at its pins and over buses, and to boards, and what comes out.
 #![tactic(auto)]
 
 mod buses;
 mod drivers;
 
 use board::{Board, Plain};
+use board_equality::{Same, compare};
+use board_join::Join;
+use board_model::Range;
+use board_shield::Shield;
+use board_window::Window;
 use buses::tell_buses;
 use chip::{Chip, ParkedChip};
 use datasheet::{Level, Part, Refusal, Sample, Sheet};
 use drivers::tell_drivers;
-use equality::{Same, compare};
-use image::Range;
-use join::Join;
-use shield::Shield;
-use std::io;
-use window::Window;
+use std::{fmt, io};
 
-// HOLD low, with SCK low.
+/// A refused call, told by the number of its refusal.
+#[derive(Clone, Copy)]
+struct Refused(Refusal);
+
+impl fmt::Display for Refused {
+    fn fmt<W: fmt::Write>(&self, f: &mut fmt::Formatter<W>) -> fmt::Result {
+        write!(f, "refused by {}", u8::from(self.0))
+    }
+}
+
+/// HOLD low, with SCK low.
 fn held() -> Sample {
     Sample {
         hold: false,
@@ -24,24 +34,24 @@ fn held() -> Sample {
     }
 }
 
-// What SO shows after a sample; a refused sample drives nothing.
+/// What SO shows after a sample; a refused sample drives nothing.
 fn put(chip: &mut Chip<'_>, sample: Sample) -> Level {
     chip.sample(u8::from(sample)).unwrap_or(Level::HighZ)
 }
 
-// CS falls: a session begins.
+/// CS falls: a session begins.
 fn select(chip: &mut Chip<'_>) {
     let _ = put(chip, Sample::selected());
 }
 
-// CS rises: the session ends.
+/// CS rises: the session ends.
 fn deselect(chip: &mut Chip<'_>) {
     let _ = put(chip, Sample::deselected());
 }
 
-// The first `bits` bits of a byte, each a rise and a fall of SCK with SI at the bit. What SO shows at the rises is answered,
-// the bits that are not clocked being 0; high-Z is read as 1. The tests of the trial cases have its like, which fails after a
-// refused sample.
+/// The first `bits` bits of a byte, each a rise and a fall of SCK with SI at the bit. What SO shows at the rises is answered,
+/// the bits that are not clocked being 0; high-Z is read as 1. The tests of the trial cases have its like, which fails after a
+/// refused sample.
 fn clock(chip: &mut Chip<'_>, byte: u8, bits: u8) -> u8 {
     let mut read = 0;
     for i in 0..bits.min(8) {
@@ -58,7 +68,7 @@ fn clock(chip: &mut Chip<'_>, byte: u8, bits: u8) -> u8 {
     read
 }
 
-// A whole session: every byte of `sent` is clocked, and `read` has what is read, as far as it reaches.
+/// A whole session: every byte of `sent` is clocked, and `read` has what is read, as far as it reaches.
 fn session(chip: &mut Chip<'_>, sent: &[u8], read: &mut [u8]) {
     select(chip);
     // not by `zip`, which would stop the clocks where `read` ends
@@ -72,8 +82,8 @@ fn session(chip: &mut Chip<'_>, sent: &[u8], read: &mut [u8]) {
     deselect(chip);
 }
 
-// HOLD goes low, SCK runs on for some clocks that do not count, and HOLD is released with SCK low. Answers what SO showed
-// while HOLD was low.
+/// HOLD goes low, SCK runs on for some clocks that do not count, and HOLD is released with SCK low. Answers what SO showed
+/// while HOLD was low.
 fn hold(chip: &mut Chip<'_>, clocks: u8) -> Level {
     let mut shown = put(chip, held());
     for _ in 0..clocks {
@@ -90,10 +100,10 @@ fn hold(chip: &mut Chip<'_>, clocks: u8) -> Level {
     shown
 }
 
-// The pore pressures of a row of cells in pascals, two bytes each, the higher first.
+/// The pore pressures of a row of cells in pascals, two bytes each, the higher first.
 const PRESSURES: [u16; 4] = [10132, 10140, 10171, 10209];
 
-// Prints bytes in hexadecimal.
+/// Prints bytes in hexadecimal.
 fn print_bytes(rt: &HostRuntime, bytes: &[u8]) -> io::Result<()> {
     for byte in bytes {
         print!(rt; " {byte:02X}")?;
@@ -101,7 +111,7 @@ fn print_bytes(rt: &HostRuntime, bytes: &[u8]) -> io::Result<()> {
     Ok(())
 }
 
-// A visit to a chip, and where it is told.
+/// A visit to a chip, and where it is told.
 #[derive(Drop)]
 struct Visit<'v, 'm> {
     rt: &'v HostRuntime,
@@ -109,7 +119,7 @@ struct Visit<'v, 'm> {
 }
 
 impl Visit<'_, '_> {
-    // Puts a session to the pins and prints what was sent and what was read.
+    /// Puts a session to the pins and prints what was sent and what was read.
     fn tell(&mut self, what: &str, sent: &[u8]) -> io::Result<()> {
         let rt = self.rt;
         let mut buffer = [0; 16];
@@ -123,7 +133,7 @@ impl Visit<'_, '_> {
         println!(rt; "")
     }
 
-    // A row of pore pressures is written and read.
+    /// A row of pore pressures is written and read.
     fn pressures(&mut self) -> io::Result<()> {
         let rt = self.rt;
         println!(rt; "A row of pore pressures is written from cell 0100h on and read back.")?;
@@ -136,7 +146,7 @@ impl Visit<'_, '_> {
         self.tell("  READ ", &[0x03, 0x01, 0x00, 0, 0, 0, 0, 0, 0, 0, 0])
     }
 
-    // A write across the edge of a protected block.
+    /// A write across the edge of a protected block.
     fn protected_edge(&mut self) -> io::Result<()> {
         let rt = self.rt;
         println!(rt; "The upper quarter is protected, and a write runs across its edge at 1800h.")?;
@@ -145,7 +155,7 @@ impl Visit<'_, '_> {
         self.tell("  READ ", &[0x03, 0x17, 0xFE, 0, 0, 0, 0])
     }
 
-    // CS raised inside a byte.
+    /// CS raised inside a byte.
     fn cut_short(&mut self) -> io::Result<()> {
         let rt = self.rt;
         println!(rt;
@@ -161,7 +171,7 @@ impl Visit<'_, '_> {
         self.tell("  READ ", &[0x03, 0x02, 0x00, 0, 0])
     }
 
-    // HOLD pulled low inside an address.
+    /// HOLD pulled low inside an address.
     fn held_address(&mut self) -> io::Result<()> {
         let rt = self.rt;
         println!(rt;
@@ -181,7 +191,7 @@ impl Visit<'_, '_> {
         )
     }
 
-    // Sleep and waking.
+    /// Sleep and waking.
     fn sleep(&mut self) -> io::Result<()> {
         let rt = self.rt;
         println!(rt; "The chip is put to sleep. The end of the next session wakes it.")?;
@@ -190,21 +200,19 @@ impl Visit<'_, '_> {
         self.tell("  RDSR ", &[0x05, 0])
     }
 
-    // Samples that are no samples.
+    /// Samples that are no samples.
     fn refused(&mut self) -> io::Result<()> {
         let rt = self.rt;
         match self.chip.sample(0x20) {
             Ok(level) => println!(rt; "A sample with bit 5 set shows {level}."),
             Err(refusal) => {
-                let number = u8::from(refusal);
-                println!(rt;
-                    "A sample with bit 5 set is refused by {number}, and leaves everything."
-                )
+                let refused = Refused(refusal);
+                println!(rt; "A sample with bit 5 set is {refused}, and leaves everything.")
             }
         }
     }
 
-    // The whole visit.
+    /// The whole visit.
     fn all(&mut self) -> io::Result<()> {
         let rt = self.rt;
         self.tell("  RDID ", &[0x9F, 0, 0, 0, 0])?;
@@ -226,7 +234,7 @@ impl Visit<'_, '_> {
     }
 }
 
-// Writes one byte into a cell.
+/// Writes one byte into a cell.
 fn write_byte(chip: &mut Chip<'_>, cell: u16, byte: u8) {
     let [high, low] = cell.to_be_bytes();
     session(chip, &[0x06], &mut []);
@@ -234,7 +242,7 @@ fn write_byte(chip: &mut Chip<'_>, cell: u16, byte: u8) {
     session(chip, &[0x04], &mut []);
 }
 
-// Two chips that came to the same record in different ways, and then to different ones.
+/// Two chips that came to the same record in different ways, and then to different ones.
 fn two_chips(rt: &HostRuntime, first: &mut Chip<'_>, second: &mut Chip<'_>) -> io::Result<()> {
     println!(rt; "Two chips get the same two bytes, in different order.")?;
     write_byte(first, 0x0040, 0x5A);
@@ -250,14 +258,14 @@ fn two_chips(rt: &HostRuntime, first: &mut Chip<'_>, second: &mut Chip<'_>) -> i
     tell_drivers(rt, chips)
 }
 
-// Two chips that are compared.
-#[derive(Clone, Copy, Drop)]
+/// Two chips that are compared.
+#[derive(Clone, Copy)]
 struct Chips<'c, 'm> {
     first: &'c Chip<'m>,
     second: &'c Chip<'m>,
 }
 
-// Whether any samples could tell two resting chips apart.
+/// Whether any samples could tell two resting chips apart.
 fn tell_apart(rt: &HostRuntime, chips: Chips<'_, '_>) -> io::Result<()> {
     if chips.first.same_record(chips.second) {
         println!(rt; "  equal records: no list of samples and power cycles tells them apart")
@@ -266,18 +274,18 @@ fn tell_apart(rt: &HostRuntime, chips: Chips<'_, '_>) -> io::Result<()> {
     }
 }
 
-// Prints whether a call was accepted.
+/// Prints whether a call was accepted.
 fn tell_call(rt: &HostRuntime, what: &str, res: Result<(), Refusal>) -> io::Result<()> {
     match res {
         Ok(()) => println!(rt; "  {what}: accepted"),
         Err(refusal) => {
-            let number = u8::from(refusal);
-            println!(rt; "  {what}: refused by {number}")
+            let refused = Refused(refusal);
+            println!(rt; "  {what}: {refused}")
         }
     }
 }
 
-// Prints the first cells of a board, 24 at the most, and its first fence.
+/// Prints the first cells of a board, 24 at the most, and its first fence.
 fn tell_board<B: Board>(rt: &HostRuntime, board: &mut B) -> io::Result<()> {
     let mut bytes = [0; 24];
     let size = board.size();
@@ -293,7 +301,7 @@ fn tell_board<B: Board>(rt: &HostRuntime, board: &mut B) -> io::Result<()> {
     }
 }
 
-// Prints what a comparison says of two boards.
+/// Prints what a comparison says of two boards.
 fn tell_same_boards(rt: &HostRuntime, same: Same) -> io::Result<()> {
     if same.boards {
         println!(rt;
@@ -306,7 +314,7 @@ fn tell_same_boards(rt: &HostRuntime, same: Same) -> io::Result<()> {
     }
 }
 
-// Compares two boards, beside two chips, and prints what came out.
+/// Compares two boards, beside two chips, and prints what came out.
 fn tell_equal<P: Board, Q: Board>(
     rt: &HostRuntime,
     chips: Chips<'_, '_>,
@@ -322,7 +330,7 @@ fn tell_equal<P: Board, Q: Board>(
     tell_same_boards(rt, same)
 }
 
-// Writes to a shielded board, and widens a range of the shield.
+/// Writes to a shielded board, and widens a range of the shield.
 fn writes<B: Board>(rt: &HostRuntime, board: &mut Shield<B>) -> io::Result<()> {
     tell_board(rt, board)?;
     println!(rt; "The shield fences cells 6 and 7.")?;
@@ -341,7 +349,7 @@ fn writes<B: Board>(rt: &HostRuntime, board: &mut Shield<B>) -> io::Result<()> {
     tell_board(rt, board)
 }
 
-// Two piles built differently, that come to hold the same image and then another.
+/// Two piles built differently, that come to hold the same image and then another.
 fn two_piles<B: Board>(rt: &HostRuntime, chips: Chips<'_, '_>, left: &mut B) -> io::Result<()> {
     println!(rt;
         "A second pile: 24 bytes of plain memory get the same bytes, and a shield of two ranges."
@@ -365,7 +373,7 @@ fn two_piles<B: Board>(rt: &HostRuntime, chips: Chips<'_, '_>, left: &mut B) -> 
     tell_equal(rt, chips, left, &mut right)
 }
 
-// A pile of layers over plain memory.
+/// A pile of layers over plain memory.
 fn piles(rt: &HostRuntime, chips: Chips<'_, '_>) -> io::Result<()> {
     println!(rt;
         "A pile: a shield over a join of a window, eight cells from 4 on of 16 bytes, and 16 bytes more."

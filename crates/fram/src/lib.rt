@@ -1,14 +1,14 @@
-// The C entry points: both script runs on numbers and byte buffers (include/fram.h).
-//
-// What it promises: that of the reports. Each function is total: whatever the numbers are, and however long the buffers.
+//! The C entry points: both script runs on numbers and byte buffers (include/fram.h).
+//!
+//! What it promises: that of the reports. Each function is total: whatever the numbers are, and however long the buffers.
 #![tactic(auto)]
 
-ghost use Rattle.reports.specs.Marks.{marks_by};
-ghost use Rattle.reports.specs.Visits.{Visits, on_chip, on_board};
+ghost use Rattle.script_reports.specs.Marks.{marks_by};
+ghost use Rattle.script_reports.specs.Visits.{Visits, on_chip, on_board};
 
-use reports::{Report, board_report, chip_report, marks};
+use script_reports::{Report, board_report, chip_report, marks};
 
-// The chip run, on the pins of the chip.
+/// The chip run, on the pins of the chip.
 #[unsafe(no_mangle)]
 pub extern "C" fn fram_chip_run(
     t: u8,
@@ -35,7 +35,7 @@ pub extern "C" fn fram_chip_run(
     )
 }
 
-// The board run, on the board that a driver makes of the chip.
+/// The board run, on the board that a driver makes of the chip.
 #[unsafe(no_mangle)]
 pub extern "C" fn fram_board_run(
     t: u8,

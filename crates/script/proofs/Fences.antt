@@ -3,13 +3,14 @@ use Rattle.std.proofs.Common.{◌≡◌, ℕ, zero, suc, ◌+◌, ◌*◌, ◌<�
 use Rattle.std.proofs.lemmas.List.{take-append-drop}
 use Rattle.datasheet.specs.declared.refusal.Refusal.{Refusal}
 use Rattle.datasheet.specs.declared.refusal.Refusal.TheVariants.{OutOfRange, ShortBuffer}
-use Rattle.image.specs.declared.Cell.{Cell}
-use Rattle.image.specs.Images.{Image, inside, part, first_fenced, fence_in, overlaid, overwritten}
-use Rattle.image.specs.Results.{unless_fenced, if_accepted, write_result, written}
-use Rattle.image.specs.Calls.{Call, size, fence, read, write, after, run, answers}
+use Rattle.board_model.specs.declared.Cell.{Cell}
+use Rattle.board_model.specs.Images.{Image, inside, part, first_fenced, fence_in, overlaid, overwritten}
+use Rattle.board_model.specs.Results.{unless_fenced, if_accepted, write_result, written}
+use Rattle.board_model.specs.Calls.{BoardCall, size, fence, read, write, after, run}
+use Rattle.datasheet.proofs.Machines.{keeps}
 use Rattle.script.specs.Steps.{board_kinds}
 use Rattle.script.specs.Reading.{Reading, reads, stops, read_script}
-use Rattle.script.specs.Replies.{all_board_bytes}
+use Rattle.script.specs.Machines.{replies, board_machine}
 use Rattle.script.specs.Runs.{outcome_of, playing, refusing}
 use Rattle.script.specs.Kept.{FencedKept, KeepsFenced, Names, NamedBy, KeepsUnnamed}
 
@@ -52,22 +53,21 @@ kept_written i start bytes true None e =
     subst (λ (j : Image). FencedKept j (overwritten i start bytes)) (take-append-drop start i)
     (kept_behind (take start i) (drop start i) (overlaid (drop start i) bytes) (kept_overlaid start (drop start i) bytes (sym e)))
 
-kept_after : (i : Image) (c : Call) → FencedKept i (after i c)
+kept_after : (i : Image) (c : BoardCall) → FencedKept i (after i c)
 kept_after i size = kept_same i
 kept_after i (fence start count) = kept_same i
 kept_after i (read start count) = kept_same i
 kept_after i (write start bytes) = kept_written i start bytes (inside i start (length bytes)) (fence_in i start (length bytes)) refl
 
-kept_run : (i : Image) (calls : List Call) → FencedKept i (run i calls)
-kept_run i [] = kept_same i
-kept_run i (c ∷ calls) = kept_on i (after i c) (run (after i c) calls) (kept_after i c) (kept_run (after i c) calls)
+kept_run : (i : Image) (calls : List BoardCall) → FencedKept i (run i calls)
+kept_run i calls = keeps after (λ j rest. FencedKept i j) (λ j c rest h. kept_on i j (after j c) h (kept_after j c)) i calls (kept_same i)
 
-left_kept : (i : Image) (buffer : List ℕ) (k : Reading Call) → FencedKept i (outcome_of board_kinds run (λ j calls. all_board_bytes (answers j calls)) k i buffer).left
+left_kept : (i : Image) (buffer : List ℕ) (k : Reading BoardCall) → FencedKept i (outcome_of board_kinds board_machine k i buffer).left
 left_kept i buffer (stops e) = kept_same i
 left_kept i buffer (reads calls) = go (leb (9 * length calls) (length buffer))
   where
     go : (f : Bool) →
-        FencedKept i (cond f (playing board_kinds run (λ j calls. all_board_bytes (answers j calls)) i calls (all_board_bytes (answers i calls)) buffer) (refusing ShortBuffer i buffer)).left
+        FencedKept i (cond f (playing board_kinds board_machine i calls (replies board_machine i calls) buffer) (refusing ShortBuffer i buffer)).left
     go true = kept_run i calls
     go false = kept_same i
 
@@ -97,24 +97,24 @@ unnamed_written i start bytes place h = go (write_result i start bytes)
     go (Ok u) = unnamed_overwritten start i bytes place h
     go (Err e) = refl
 
-unnamed_after : (i : Image) (c : Call) (place : ℕ) → (Names c place → ⊥) → part (after i c) place 1 ≡ part i place 1
+unnamed_after : (i : Image) (c : BoardCall) (place : ℕ) → (Names c place → ⊥) → part (after i c) place 1 ≡ part i place 1
 unnamed_after i size place h = refl
 unnamed_after i (fence start count) place h = refl
 unnamed_after i (read start count) place h = refl
 unnamed_after i (write start bytes) place h = unnamed_written i start bytes place h
 
-unnamed_run : (i : Image) (calls : List Call) (place : ℕ) → (NamedBy calls place → ⊥) → part (run i calls) place 1 ≡ part i place 1
-unnamed_run i [] place h = refl
-unnamed_run i (c ∷ calls) place h =
-    unnamed_run (after i c) calls place (λ n. h (inr n)) ∙ unnamed_after i c place (λ n. h (inl n))
+unnamed_run : (i : Image) (calls : List BoardCall) (place : ℕ) → (NamedBy calls place → ⊥) → part (run i calls) place 1 ≡ part i place 1
+unnamed_run i calls place h =
+    (keeps after (λ j rest. (NamedBy rest place → ⊥) × (part j place 1 ≡ part i place 1))
+    (λ j c rest g. ((λ n. g.0 (inr n)), unnamed_after j c place (λ n. g.0 (inl n)) ∙ g.1)) i calls (h, refl)).1
 
 pub keeps_unnamed : KeepsUnnamed
 keeps_unnamed i script buffer calls place is h =
-    ap (λ (k : Reading Call). part (outcome_of board_kinds run (λ j cs. all_board_bytes (answers j cs)) k i buffer).left place 1) is
+    ap (λ (k : Reading BoardCall). part (outcome_of board_kinds board_machine k i buffer).left place 1) is
     ∙ go (leb (9 * length calls) (length buffer))
   where
     go : (f : Bool) →
-        part (cond f (playing board_kinds run (λ j cs. all_board_bytes (answers j cs)) i calls (all_board_bytes (answers i calls)) buffer) (refusing ShortBuffer i buffer)).left place 1
+        part (cond f (playing board_kinds board_machine i calls (replies board_machine i calls) buffer) (refusing ShortBuffer i buffer)).left place 1
         ≡ part i place 1
     go true = unnamed_run i calls place h
     go false = refl

@@ -3,5 +3,4 @@ pub mod Found
 pub mod Exact
 pub mod Fences
 pub mod Going
-pub mod Outcomes
 pub mod Whole

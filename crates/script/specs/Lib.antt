@@ -1,9 +1,10 @@
 pub mod Steps
 pub mod Reading
 pub mod Replies
+pub mod Machines
 pub mod Laws
 pub mod Runs
 pub mod Kept
-pub mod Folds
 pub mod Views
 pub mod StepCalls
+pub mod Visits

@@ -21,7 +21,8 @@ module _ {C : Type 0} (kinds : Kinds C) where
   read_from zero past total rest = reads past
   read_from (suc most) past total [] = reads past
   read_from (suc most) past total (b ∷ rest) =
-      follow (first kinds (b ∷ rest)) (total - length (b ∷ rest)) (λ call rest'. read_from most (past ++ call ∷ []) total rest')
+      follow (first kinds (b ∷ rest)) (total - length (b ∷ rest))
+      (λ call rest'. read_from most (past ++ call ∷ []) total rest')
 
   -- a script has no more steps than bytes
   abbrev pub read_script : List ℕ → Reading C

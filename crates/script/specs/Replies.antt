@@ -1,8 +1,8 @@
 -- Answers as bytes. Numbers go highest byte first.
-use Rattle.std.specs.Prelude.{ℕ, ◌/◌, ◌%◌, List, [], ◌∷◌, ◌++◌, Some, None, Option}
+use Rattle.std.specs.Prelude.{ℕ, ◌/◌, ◌%◌, List, [], ◌∷◌, Some, None, Option}
 use Rattle.datasheet.specs.Levels.{level_number}
-use Rattle.datasheet.specs.Calls.{Answer, shows, done, refused}
-use Rattle.image.specs.Calls.{Answer as BoardAnswer, cells, place, bytes, done as board_done, refused as board_refused}
+use Rattle.datasheet.specs.Calls.{ChipAnswer, shows, done, refused}
+use Rattle.board_model.specs.Calls.{BoardAnswer, cells, place, bytes, done as board_done, refused as board_refused}
 
 -- 7Fh and the number of a refusal
 abbrev pub refusal_bytes : ℕ → List ℕ
@@ -11,15 +11,10 @@ refusal_bytes number = 0x7F ∷ number ∷ []
 -- ## The chip run
 
 -- 81h and SO for a sample, 82h for a power cycle
-abbrev pub answer_bytes : Answer → List ℕ
+abbrev pub answer_bytes : ChipAnswer → List ℕ
 answer_bytes (shows level) = 0x81 ∷ level_number level ∷ []
 answer_bytes done = 0x82 ∷ []
 answer_bytes (refused number) = refusal_bytes number
-
--- the bytes of several answers, one behind the other
-abbrev pub all_bytes : List Answer → List ℕ
-all_bytes [] = []
-all_bytes (a ∷ rest) = answer_bytes a ++ all_bytes rest
 
 -- ## The board run
 
@@ -39,7 +34,3 @@ board_answer_bytes (place p) = 0x84 ∷ place_bytes p
 board_answer_bytes (bytes bs) = 0x85 ∷ bs
 board_answer_bytes board_done = 0x86 ∷ []
 board_answer_bytes (board_refused number) = refusal_bytes number
-
-abbrev pub all_board_bytes : List BoardAnswer → List ℕ
-all_board_bytes [] = []
-all_board_bytes (a ∷ rest) = board_answer_bytes a ++ all_board_bytes rest

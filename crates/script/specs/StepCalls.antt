@@ -1,13 +1,13 @@
 -- The steps of the code, as the calls that they stand for.
 use Rattle.std.specs.Prelude.{[], ◌∷◌}
-use Rattle.datasheet.specs.Calls.{Call, Call.sample, cycle}
-use Rattle.image.specs.Calls.{Call as BoardCall, size, fence, read, write}
+use Rattle.datasheet.specs.Calls.{ChipCall, ChipCall.sample, cycle}
+use Rattle.board_model.specs.Calls.{BoardCall, size, fence, read, write}
 use Rattle.script.specs.declared.run.chips.ChipStep.{ChipStep}
 use Rattle.script.specs.declared.run.chips.ChipStep.TheVariants.{Sample, PowerCycle}
 use Rattle.script.specs.declared.run.boards.BoardStep.{BoardStep}
 use Rattle.script.specs.declared.run.boards.BoardStep.TheVariants.{Size, Fence, ReadEight, WriteEight, WriteOne}
 
-abbrev pub chip_call_of : ChipStep → Call
+abbrev pub chip_call_of : ChipStep → ChipCall
 chip_call_of (Sample byte) = sample byte
 chip_call_of PowerCycle = cycle
 

@@ -1,8 +1,8 @@
-// Script runs. A script is a row of steps; a run reads the whole script, checks the answer buffer, and then carries out
-// all steps, on a chip or on a board.
-//
-// What it promises: result, chip or image, and every byte of the buffer are the definition's value, for every script; and a
-// board run leaves all fences, the bytes of fenced cells, and the cells that no write names.
+//! Script runs. A script is a row of steps; a run reads the whole script, checks the answer buffer, and then carries out
+//! all steps, on a chip or on a board.
+//!
+//! What it promises: result, chip or image, and every byte of the buffer are the definition's value, for every script; and a
+//! board run leaves all fences, the bytes of fenced cells, and the cells that no write names.
 #![tactic(auto)]
 
 mod run;

@@ -1,15 +1,13 @@
 // A visit: a parked chip powered, run and parked again.
 ghost use Rattle.std.specs.Prelude.{◌≡◌, ◌≤◌, length, IfOk};
-ghost use Rattle.datasheet.specs.Chips.{whole};
-ghost use Rattle.datasheet.specs.Calls.{powered};
-ghost use Rattle.script.specs.Runs.{outcome};
+ghost use Rattle.script.specs.Visits.{visit_outcome};
 
 use crate::run::{Counts, chip_run};
 use chip::ParkedChip;
 use datasheet::Refusal;
 
-// Powers a parked chip over lent memory, runs a script on it, and takes power away again. All of it is what the rules over
-// the full list of bits say.
+/// Powers a parked chip over lent memory, runs a script on it, and takes power away again. All of it is what the rules over
+/// the full list of bits say.
 #[tactic(auto, using(crate::proofs::Whole::from_power))]
 pub fn chip_visit(
     parked: ParkedChip,
@@ -17,12 +15,12 @@ pub fn chip_visit(
     script: &[u8],
     buffer: &mut [u8],
 ) -> (Result<Counts, Refusal>, ParkedChip)
-    ensures result { result.0 ≡ (outcome whole (powered parked.sheet memory.old parked.stored.bits) script.now buffer.old).result }
+    ensures result { result.0 ≡ (visit_outcome parked memory.old script.now buffer.old).result }
     ensures within { IfOk result.0 (λ counts. counts.bytes ≤ length buffer.old) }
-    ensures buffer { buffer.new ≡ (outcome whole (powered parked.sheet memory.old parked.stored.bits) script.now buffer.old).buffer }
-    ensures memory { memory.new ≡ (outcome whole (powered parked.sheet memory.old parked.stored.bits) script.now buffer.old).left.rec.memory }
-    ensures stored { result.1.stored.bits ≡ (outcome whole (powered parked.sheet memory.old parked.stored.bits) script.now buffer.old).left.rec.stored }
-    ensures sheet { result.1.sheet ≡ (outcome whole (powered parked.sheet memory.old parked.stored.bits) script.now buffer.old).left.sheet }
+    ensures buffer { buffer.new ≡ (visit_outcome parked memory.old script.now buffer.old).buffer }
+    ensures memory { memory.new ≡ (visit_outcome parked memory.old script.now buffer.old).left.rec.memory }
+    ensures stored { result.1.stored.bits ≡ (visit_outcome parked memory.old script.now buffer.old).left.rec.stored }
+    ensures sheet { result.1.sheet ≡ (visit_outcome parked memory.old script.now buffer.old).left.sheet }
 {
     let mut chip = parked.power(memory);
     let result = chip_run(&mut chip, script, buffer);

@@ -8,13 +8,11 @@ ghost use Rattle.datasheet.specs.Kept.{taken, rise_kept, fall_kept};
 ghost use Rattle.datasheet.specs.declared.level.Level.TheVariants.{HighZ};
 ghost use Rattle.chip.specs.Views.{record_of, SameButRecord};
 
-mod bytes;
-
 use super::Chip;
 use crate::stored::StoredBits;
 use datasheet::{Command, Level, Registers, Sample};
 
-// The level that shows bit i of a number.
+/// The level that shows bit i of a number.
 fn bit_level(x: u32, i: u8) -> Level
     requires { i < 32 }
     ensures { result ≡ driven (bit_at i x) }
@@ -22,21 +20,21 @@ fn bit_level(x: u32, i: u8) -> Level
     Level::from((x >> i) % 2 == 1)
 }
 
-// Whether bit n completes a data byte of WRITE.
+/// Whether bit n completes a data byte of WRITE.
 fn completes(n: u8) -> bool
     ensures { result ≡ completes n }
 {
     n >= 32 && n % 8 == 0
 }
 
-// The byte in a cell.
-fn cell(memory: &[u8], place: u16) -> u8
+/// The byte in a cell.
+pub(super) fn cell(memory: &[u8], place: u16) -> u8
     ensures { result ≡ slice_index memory.now place }
 {
     memory.get(usize::from(place)).copied().unwrap_or(0)
 }
 
-// Puts a byte into a cell.
+/// Puts a byte into a cell.
 fn write_cell(memory: &mut [u8], place: u16, byte: u8)
     ensures { memory.new ≡ slice_set memory.old place byte }
 {
@@ -48,9 +46,9 @@ fn write_cell(memory: &mut [u8], place: u16, byte: u8)
 }
 
 impl Chip<'_> {
-    // What the last bit of a session does in a chip that is awake: `taken` is what is kept with that bit, and `place` the
-    // cell of the data byte that it may complete.
-    fn obey(&mut self, wp: bool, taken: Registers, place: u16)
+    /// What the last bit of a session does in a chip that is awake: `taken` is what is kept with that bit, and `place` the
+    /// cell of the data byte that it may complete.
+    pub(super) fn obey(&mut self, wp: bool, taken: Registers, place: u16)
         requires { self.old.status.asleep ≡ false }
         ensures rec { record_of self.new ≡ effect self.old.sheet (command_at self.old.sheet taken.count taken.code)
             wp (record_of self.old) taken.count place taken.shift }
@@ -71,9 +69,10 @@ impl Chip<'_> {
         }
     }
 
-    // A rise takes the level of SI as the next bit; what is kept of the session then. A sleeping chip takes nothing.
+    /// A rise takes the level of SI as the next bit; what is kept of the session then. A sleeping chip takes nothing.
     pub(super) fn take(&mut self, kept: Registers, sample: Sample) -> Registers
-        ensures kept { result ≡ (if self.old.status.asleep then kept else taken self.old.sheet kept sample.si) }
+        ensures kept { result ≡
+            (if self.old.status.asleep then kept else taken self.old.sheet kept sample.si) }
         ensures rec { record_of self.new ≡
             (if self.old.status.asleep then record_of self.old else rise_kept self.old.sheet sample.wp (record_of self.old) kept sample.si) }
         ensures same { SameButRecord self.old self.new }
@@ -86,9 +85,10 @@ impl Chip<'_> {
         taken
     }
 
-    // What SO shows after a fall.
+    /// What SO shows after a fall.
     pub(super) fn show(&self, kept: Registers) -> Level
-        ensures { result ≡ (if self.now.status.asleep then HighZ else fall_kept self.now.sheet (record_of self.now) kept) }
+        ensures { result ≡
+            (if self.now.status.asleep then HighZ else fall_kept self.now.sheet (record_of self.now) kept) }
     {
         let n = kept.count;
         let first = kept.first_data(self.sheet);

@@ -3,7 +3,7 @@ ghost use Rattle.std.specs.Prelude.{◌≡◌, ◌≤◌, length};
 ghost use Rattle.datasheet.specs.Chips.{whole, turn, judged, output};
 ghost use Rattle.datasheet.specs.Calls.{so, put, sampled, answered};
 ghost use Rattle.datasheet.specs.Kept.{bounded};
-ghost use Rattle.laws.specs.Laws.{Enough, StaysFitted};
+ghost use Rattle.chip_laws.specs.Laws.{Enough, StaysFitted};
 ghost use Rattle.chip.specs.Views.{record_of, chip_of, pins_of};
 
 use super::Chip;
@@ -12,7 +12,7 @@ use datasheet::{Level, Refusal, Registers, Sample};
 
 // Each of these says for itself which chip it leaves (`sheet`, `lent`): a clause is what the next caller may rely on.
 impl Chip<'_> {
-    // The new sample, judged by the last one and the session together, in a fitted chip.
+    /// The new sample, judged by the last one and the session together, in a fitted chip.
     fn judge(&mut self, sample: Sample)
         ensures judged { turn (record_of self.new) (pins_of self.new.session) ≡
             judged bounded self.old.sheet (record_of self.old) (pins_of self.old.session) sample }
@@ -51,7 +51,7 @@ impl Chip<'_> {
         });
     }
 
-    // SO, as far as it is driven.
+    /// SO, as far as it is driven.
     fn output(&self) -> Level
         ensures { result ≡ output (pins_of self.now.session) }
     {
@@ -61,7 +61,7 @@ impl Chip<'_> {
         }
     }
 
-    // The chip after a sample of these levels, and what SO shows then. A blank chip changes nothing, and its SO is high-Z.
+    /// The chip after a sample of these levels, and what SO shows then. A blank chip changes nothing, and its SO is high-Z.
     pub(crate) fn put(&mut self, sample: Sample) -> Level
         ensures shows { result ≡ so (put bounded (chip_of self.old) sample) }
         ensures state { chip_of self.new ≡ put bounded (chip_of self.old) sample }
@@ -75,8 +75,8 @@ impl Chip<'_> {
         self.output()
     }
 
-    // Puts a sample to the pins, by its byte, and answers what SO shows then. A byte with a bit 5, 6 or 7 is refused and
-    // leaves everything.
+    /// Puts a sample to the pins, by its byte, and answers what SO shows then. A byte with a bit 5, 6 or 7 is refused and
+    /// leaves everything.
     #[tactic(auto, using(crate::proofs::Laws::stays))]
     pub fn sample(&mut self, byte: u8) -> Result<Level, Refusal>
         ensures answer { result ≡ answered bounded (chip_of self.old) byte }

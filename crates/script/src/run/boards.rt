@@ -2,7 +2,7 @@
 ghost use Rattle.std.specs.Prelude.{◌≡◌, ◌≤◌, ◌+◌, ◌*◌, length, IfOk};
 ghost use Rattle.script.specs.Steps.{board_kinds, first};
 ghost use Rattle.script.specs.Replies.{three_bytes, place_bytes};
-ghost use Rattle.script.specs.Runs.{board_outcome};
+ghost use Rattle.script.specs.Runs.{CameTo, board_outcome};
 ghost use Rattle.script.specs.Laws.{ReadsExactly};
 ghost use Rattle.script.specs.Kept.{KeepsFenced, KeepsUnnamed};
 
@@ -11,7 +11,7 @@ use super::{Answers, Counts, Runs, run};
 use board::Board;
 use datasheet::Refusal;
 
-// A step of the board run. The bytes of a write of eight stay a part of the script.
+/// A step of the board run. The bytes of a write of eight stay a part of the script.
 #[derive(Drop)]
 pub(super) enum BoardStep<'s> {
     Size,
@@ -21,14 +21,14 @@ pub(super) enum BoardStep<'s> {
     WriteOne { start: usize, byte: u8 },
 }
 
-// The start that a step names in three bytes.
+/// The start that a step names in three bytes.
 fn start_of(high: u8, middle: u8, low: u8) -> usize
     ensures { result ≡ 65536 * high + (256 * middle + low) }
 {
     usize::from(high) * 65536 + (usize::from(middle) * 256 + usize::from(low))
 }
 
-// A number in three bytes.
+/// A number in three bytes.
 fn three_bytes(number: usize) -> [u8; 3]
     ensures { result ≡ three_bytes number }
 {
@@ -39,7 +39,7 @@ fn three_bytes(number: usize) -> [u8; 3]
     ]
 }
 
-// A place in three bytes, or FFFFFFh for none.
+/// A place in three bytes, or FFFFFFh for none.
 fn place_bytes(place: Option<usize>) -> [u8; 3]
     ensures { result ≡ place_bytes place }
 {
@@ -49,23 +49,22 @@ fn place_bytes(place: Option<usize>) -> [u8; 3]
     }
 }
 
-// A board, as what a script runs on.
+/// A board, as what a script runs on.
 #[derive(Drop)]
 struct OnBoard<B> {
     board: B,
 }
 
 impl<'s, B: Board> Runs<'s> for OnBoard<B> {
-    ghost use Rattle.image.specs.Images.{Image};
-    ghost use Rattle.image.specs.Lent.{Lent};
-    ghost use Rattle.image.specs.Calls.{Call, after, answer};
-    ghost use Rattle.script.specs.Replies.{board_answer_bytes};
+    ghost use Rattle.board_model.specs.Images.{Image};
+    ghost use Rattle.board_model.specs.Calls.{BoardCall, BoardAnswer};
+    ghost use Rattle.script.specs.Machines.{board_machine};
     ghost use Rattle.script.specs.StepCalls.{board_call_of};
     ghost use Rattle.script.specs.Views.{first_of};
 
     type Step = BoardStep<'s>;
 
-    ghost Call = { Call };
+    ghost Call = { BoardCall };
 
     ghost call = { board_call_of };
 
@@ -73,15 +72,15 @@ impl<'s, B: Board> Runs<'s> for OnBoard<B> {
 
     ghost State = { Image };
 
-    ghost state = { λ s. B.Board.image s.board };
+    ghost state = { λ s. B.image s.board };
 
-    ghost after = { after };
+    ghost Answer = { BoardAnswer };
 
-    ghost reply = { λ i x. board_answer_bytes (answer i x) };
+    ghost machine = { board_machine };
 
-    ghost Lent = { Lent };
+    ghost Lent = { B.Lent };
 
-    ghost lent = { λ s. B.Board.lent s.board };
+    ghost lent = { λ s. B.lent s.board };
 
     #[tactic(auto, using(crate::proofs::Found::whole_step))]
     fn first(script: &'s [u8]) -> Result<(BoardStep<'s>, &'s [u8]), Fault>
@@ -148,19 +147,17 @@ impl<'s, B: Board> Runs<'s> for OnBoard<B> {
     }
 }
 
-// Runs a script on a board. The whole script is read first, then the buffer is checked, then all steps run: a refused step
-// puts its refusal into the buffer and stops nothing.
+/// Runs a script on a board. The whole script is read first, then the buffer is checked, then all steps run: a refused step
+/// puts its refusal into the buffer and stops nothing.
 #[tactic(auto, using(crate::proofs::Exact::reads_exactly, crate::proofs::Fences::fences))]
 pub fn board_run<B: Board>(
     board: &mut B,
     script: &[u8],
     buffer: &mut [u8],
 ) -> Result<Counts, Refusal>
-    ensures result { result ≡ (board_outcome (B.Board.image board.old) script.now buffer.old).result }
+    ensures outcome { CameTo (board_outcome (B.image board.old) script.now buffer.old) result (B.image board.new) buffer.new }
     ensures within { IfOk result (λ counts. counts.bytes ≤ length buffer.old) }
-    ensures buffer { buffer.new ≡ (board_outcome (B.Board.image board.old) script.now buffer.old).buffer }
-    ensures image { B.Board.image board.new ≡ (board_outcome (B.Board.image board.old) script.now buffer.old).left }
-    ensures lent { B.Board.lent board.new ≡ B.Board.lent board.old }
+    ensures lent { B.lent board.new ≡ B.lent board.old }
     ensures law { ReadsExactly board_kinds }
     ensures fences { KeepsFenced }
     ensures unnamed { KeepsUnnamed }

@@ -3,7 +3,7 @@ ghost use Rattle.std.specs.Prelude.{◌≡◌, ◌≤◌, length, IfOk};
 ghost use Rattle.datasheet.specs.Kept.{bounded};
 ghost use Rattle.chip.specs.Views.{chip_of};
 ghost use Rattle.script.specs.Steps.{chip_kinds, first};
-ghost use Rattle.script.specs.Runs.{outcome};
+ghost use Rattle.script.specs.Runs.{CameTo, outcome};
 ghost use Rattle.script.specs.Laws.{ReadsExactly};
 
 use super::steps::Fault;
@@ -11,7 +11,7 @@ use super::{Answers, Counts, Runs, run};
 use chip::Chip;
 use datasheet::Refusal;
 
-// A step of the chip run.
+/// A step of the chip run.
 #[derive(Drop)]
 pub(super) enum ChipStep {
     Sample(u8),
@@ -21,26 +21,26 @@ pub(super) enum ChipStep {
 impl<'s> Runs<'s> for Chip<'_> {
     ghost use Rattle.std.specs.Borrow.{GName};
     ghost use Rattle.datasheet.specs.declared.registers.Registers.{Registers};
-    ghost use Rattle.datasheet.specs.Calls.{Call, Chip as ChipOfRules, after, answer};
-    ghost use Rattle.script.specs.Replies.{answer_bytes};
+    ghost use Rattle.datasheet.specs.Calls.{ChipCall, ChipState, ChipAnswer};
+    ghost use Rattle.script.specs.Machines.{chip_machine};
     ghost use Rattle.script.specs.StepCalls.{chip_call_of};
     ghost use Rattle.script.specs.Views.{first_of};
 
     type Step = ChipStep;
 
-    ghost Call = { Call };
+    ghost Call = { ChipCall };
 
     ghost call = { chip_call_of };
 
     ghost kinds = { chip_kinds };
 
-    ghost State = { ChipOfRules Registers };
+    ghost State = { ChipState Registers };
 
     ghost state = { chip_of };
 
-    ghost after = { after bounded };
+    ghost Answer = { ChipAnswer };
 
-    ghost reply = { λ c x. answer_bytes (answer bounded c x) };
+    ghost machine = { chip_machine bounded };
 
     ghost Lent = { GName };
 
@@ -58,7 +58,6 @@ impl<'s> Runs<'s> for Chip<'_> {
         }
     }
 
-    // by a rule of the project a step is a case of an enum, and carrying it out a `match`
     fn carry_out(&mut self, step: ChipStep, answers: &mut Answers<'_>) {
         match step {
             ChipStep::Sample(byte) => match self.sample(byte) {
@@ -73,14 +72,12 @@ impl<'s> Runs<'s> for Chip<'_> {
     }
 }
 
-// Runs a script on a chip. The whole script is read first, then the buffer is checked, then all steps run: a refused step
-// puts its refusal into the buffer and stops nothing.
+/// Runs a script on a chip. The whole script is read first, then the buffer is checked, then all steps run: a refused step
+/// puts its refusal into the buffer and stops nothing.
 #[tactic(auto, using(crate::proofs::Exact::reads_exactly))]
 pub fn chip_run(chip: &mut Chip<'_>, script: &[u8], buffer: &mut [u8]) -> Result<Counts, Refusal>
-    ensures result { result ≡ (outcome bounded (chip_of chip.old) script.now buffer.old).result }
+    ensures outcome { CameTo (outcome bounded (chip_of chip.old) script.now buffer.old) result (chip_of chip.new) buffer.new }
     ensures within { IfOk result (λ counts. counts.bytes ≤ length buffer.old) }
-    ensures buffer { buffer.new ≡ (outcome bounded (chip_of chip.old) script.now buffer.old).buffer }
-    ensures chip { chip_of chip.new ≡ (outcome bounded (chip_of chip.old) script.now buffer.old).left }
     ensures lent { chip.new.memory.ghost_name ≡ chip.old.memory.ghost_name }
     ensures law { ReadsExactly chip_kinds }
 {

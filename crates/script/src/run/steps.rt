@@ -7,17 +7,17 @@ use datasheet::Refusal;
 use std::marker::PhantomData;
 use std::mem;
 
-// Why no step stands at the beginning of a script.
-#[derive(Clone, Copy, Drop)]
+/// Why no step stands at the beginning of a script.
+#[derive(Clone, Copy, Debug, PartialEq, Eq)]
 pub(super) enum Fault {
-    // its kind is not known to the run
+    /// its kind is not known to the run
     UnknownKind,
-    // the script ends inside it
+    /// the script ends inside it
     ShortStep,
 }
 
-// The steps of a script, one after the other, of which `rest` is still to be read. A fault is the last that comes, as the
-// refusal with the place of its kind byte.
+/// The steps of a script, one after the other, of which `rest` is still to be read. A fault is the last that comes, as the
+/// refusal with the place of its kind byte.
 #[derive(Drop)]
 pub(super) struct Steps<'s, X> {
     script: &'s [u8],
@@ -29,7 +29,7 @@ pub(super) struct Steps<'s, X> {
 impl<'s, X: Runs<'s>> Steps<'s, X> {
     ghost use Rattle.script.specs.Views.{left};
 
-    // All steps of a script.
+    /// All steps of a script.
     pub(super) fn new(script: &'s [u8]) -> Steps<'s, X>
         ensures left { left X.kinds result ≡ read_script X.kinds script.now }
         ensures all { length result.rest.now ≡ length script.now }
@@ -71,7 +71,7 @@ impl<'s, X: Runs<'s>> Iterator for Steps<'s, X> {
     }
 }
 
-// The number of steps of a whole script, or the refusal for its first fault.
+/// The number of steps of a whole script, or the refusal for its first fault.
 #[tactic(auto, using(crate::proofs::Ahead::counting))]
 pub(super) fn count_steps<'s, X: Runs<'s>>(script: &'s [u8]) -> Result<usize, Refusal>
     ensures count { result ≡ counted (read_script X.kinds script.now) }

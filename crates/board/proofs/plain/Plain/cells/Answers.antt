@@ -1,5 +1,5 @@
-use Rattle.image.specs.Images.{most}
-use Rattle.image.proofs.Cells.{take_min}
+use Rattle.board_model.specs.Images.{most}
+use Rattle.board_model.proofs.Cells.{take_min}
 use Rattle.board.proofs.plain.Plain.cells.Goals as goal
 
 pub returns : goal.returns

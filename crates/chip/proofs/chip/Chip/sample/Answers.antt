@@ -1,4 +1,4 @@
-use Rattle.laws.proofs.Follow.{enough}
+use Rattle.chip_laws.proofs.Follow.{enough}
 use Rattle.chip.proofs.chip.Chip.sample.Goals as goal
 
 pub returns-in_err-sample-clause-enough : goal.returns-in_err-sample-clause-enough

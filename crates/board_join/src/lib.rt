@@ -1,0 +1,141 @@
+//! A join: two boards, one after the other, as a board.
+//!
+//! What it promises: that of a board, for the cells of both, cut at 1,048,576; a write puts all its bytes or none; and what both
+//! boards are at exit.
+#![tactic(auto)]
+
+ghost use Rattle.std.specs.Prelude.{◌≡◌, ◌≤◌, length};
+ghost use Rattle.board_model.specs.Images.{most};
+ghost use Rattle.board_model.specs.Results.{fence_result, read_result, read_into, write_result, written};
+ghost use Rattle.board_join.specs.Joins.{join_image, join_lent, cut_result, written_first, written_second};
+
+use board::{Board, MOST, check_range};
+use board_model::Range;
+use datasheet::Refusal;
+
+/// The cells of two boards in order, cut at 1,048,576.
+#[derive(Drop)]
+pub struct Join<A, B> {
+    first: A,
+    second: B,
+}
+
+/// Where a range lies in the two boards: how many cells the first has, and the range's part in each, by that board's places.
+#[derive(Clone, Copy, Debug, PartialEq, Eq)]
+struct Cut {
+    seam: usize,
+    front: Range,
+    back: Range,
+}
+
+impl<A: Board, B: Board> Join<A, B> {
+    /// A join of two boards.
+    pub fn new(first: A, second: B) -> Join<A, B>
+        ensures first { result.first ≡ first }
+        ensures second { result.second ≡ second }
+    {
+        Join { first, second }
+    }
+
+    /// Where `count` places from `start` on lie in the two boards, if they lie in the join.
+    fn cut(&mut self, start: usize, count: usize) -> Result<Cut, Refusal>
+        ensures cut { result ≡
+            cut_result (A.image self.old.first) (B.image self.old.second) start count }
+        ensures first { A.image self.new.first ≡ A.image self.old.first }
+        ensures second { B.image self.new.second ≡ B.image self.old.second }
+        ensures lent_first { A.lent self.new.first ≡ A.lent self.old.first }
+        ensures lent_second { B.lent self.new.second ≡ B.lent self.old.second }
+    {
+        let seam = self.first.size();
+        check_range(start, count, MOST.min(seam + self.second.size()))?;
+        let at = start.min(seam);
+        let ahead = count.min(seam - at);
+        Ok(Cut {
+            seam,
+            front: Range {
+                start: at,
+                count: ahead,
+            },
+            back: Range {
+                start: start - at,
+                count: count - ahead,
+            },
+        })
+    }
+}
+
+// Each call says what the boards joined are afterwards (`first`, `second`): a contract speaks of one call.
+impl<A: Board, B: Board> Board for Join<A, B> {
+    ghost image = { join_image A.image B.image };
+
+    ghost Lent = { A.Lent × B.Lent };
+
+    ghost lent = { join_lent A.lent B.lent };
+
+    fn size(&mut self) -> usize
+        ensures answer { result ≡ length (join_image A.image B.image self.old) }
+        ensures few { result ≤ most }
+        ensures same { join_image A.image B.image self.new ≡ join_image A.image B.image self.old }
+        ensures lent { join_lent A.lent B.lent self.new ≡ join_lent A.lent B.lent self.old }
+        ensures first { A.image self.new.first ≡ A.image self.old.first }
+        ensures second { B.image self.new.second ≡ B.image self.old.second }
+    {
+        MOST.min(self.first.size() + self.second.size())
+    }
+
+    fn first_fence(&mut self, start: usize, count: usize) -> Result<Option<usize>, Refusal>
+        ensures answer { result ≡ fence_result (join_image A.image B.image self.old) start count }
+        ensures same { join_image A.image B.image self.new ≡ join_image A.image B.image self.old }
+        ensures lent { join_lent A.lent B.lent self.new ≡ join_lent A.lent B.lent self.old }
+        ensures first { A.image self.new.first ≡ A.image self.old.first }
+        ensures second { B.image self.new.second ≡ B.image self.old.second }
+    {
+        let cut = self.cut(start, count)?;
+        let ahead = self.first.first_fence(cut.front.start, cut.front.count)?;
+        // The second board is asked only where the first has no fence; by `or_else` its refusal could not go up by `?`.
+        if ahead.is_some() {
+            return Ok(ahead);
+        }
+        let behind = self.second.first_fence(cut.back.start, cut.back.count)?;
+        Ok(behind.map(|place| cut.seam + place))
+    }
+
+    fn read(&mut self, start: usize, buffer: &mut [u8]) -> Result<(), Refusal>
+        ensures answer { result ≡
+            read_result (join_image A.image B.image self.old) start (length buffer.old) }
+        ensures filled { buffer.new ≡
+            read_into (join_image A.image B.image self.old) start buffer.old }
+        ensures same { join_image A.image B.image self.new ≡ join_image A.image B.image self.old }
+        ensures lent { join_lent A.lent B.lent self.new ≡ join_lent A.lent B.lent self.old }
+        ensures first { A.image self.new.first ≡ A.image self.old.first }
+        ensures second { B.image self.new.second ≡ B.image self.old.second }
+    {
+        let cut = self.cut(start, buffer.len())?;
+        let (front, back) = buffer.split_at_mut(cut.front.count);
+        self.first.read(cut.front.start, front)?;
+        self.second.read(cut.back.start, back)
+    }
+
+    fn write(&mut self, start: usize, bytes: &[u8]) -> Result<(), Refusal>
+        ensures answer { result ≡
+            write_result (join_image A.image B.image self.old) start bytes.now }
+        ensures after { join_image A.image B.image self.new ≡
+            written (join_image A.image B.image self.old) start bytes.now }
+        ensures lent { join_lent A.lent B.lent self.new ≡ join_lent A.lent B.lent self.old }
+        ensures first { A.image self.new.first ≡
+            written_first (A.image self.old.first) (B.image self.old.second) start bytes.now }
+        ensures second { B.image self.new.second ≡
+            written_second (A.image self.old.first) (B.image self.old.second) start bytes.now }
+    {
+        let cut = self.cut(start, bytes.len())?;
+        // Both boards are asked before either is written.
+        let ahead = self.first.first_fence(cut.front.start, cut.front.count)?;
+        let behind = self.second.first_fence(cut.back.start, cut.back.count)?;
+        if ahead.or(behind).is_some() {
+            return Err(Refusal::Fenced);
+        }
+        let (front, back) = bytes.split_at(cut.front.count);
+        self.first.write(cut.front.start, front)?;
+        self.second.write(cut.back.start, back)
+    }
+}

@@ -1,0 +1,49 @@
+-- Lists of calls on a board, and what they are answered.
+use Rattle.std.specs.Prelude.{ℕ, List, length, Ok, Err, Option, Result}
+use Rattle.datasheet.specs.declared.refusal.Refusal.{Refusal}
+use Rattle.datasheet.specs.Refusals.{refusal_number}
+use Rattle.datasheet.specs.Machines.{left_by, answered_by}
+use Rattle.board_model.specs.Images.{Image, part, bytes_of}
+use Rattle.board_model.specs.Results.{fence_result, read_result, write_result, written}
+
+-- size; fence question and read, by a start and a count; write, by a start and its bytes
+pub data BoardCall : Type 0 where
+  size : BoardCall
+  fence : ℕ → ℕ → BoardCall
+  read : ℕ → ℕ → BoardCall
+  write : ℕ → List ℕ → BoardCall
+
+-- the number of cells; the first fenced place or none; the bytes that a read put into a buffer of its own;
+-- done; or a refusal's number
+pub data BoardAnswer : Type 0 where
+  cells : ℕ → BoardAnswer
+  place : Option ℕ → BoardAnswer
+  bytes : List ℕ → BoardAnswer
+  done : BoardAnswer
+  refused : ℕ → BoardAnswer
+
+-- the answer of a call that was accepted or refused
+abbrev pub answer_of : {A : Type 0} → (A → BoardAnswer) → Result A Refusal → BoardAnswer
+answer_of accepted (Ok x) = accepted x
+answer_of accepted (Err e) = refused (refusal_number e)
+
+abbrev pub answer : Image → BoardCall → BoardAnswer
+answer i size = cells (length i)
+answer i (fence start count) = answer_of place (fence_result i start count)
+answer i (read start count) =
+    answer_of (λ _. bytes (bytes_of (part i start count))) (read_result i start count)
+answer i (write start bs) = answer_of (λ _. done) (write_result i start bs)
+
+-- what a call leaves
+abbrev pub after : Image → BoardCall → Image
+after i size = i
+after i (fence start count) = i
+after i (read start count) = i
+after i (write start bs) = written i start bs
+
+-- what a list of calls leaves, made one after the other, and what it is answered
+abbrev pub run : Image → List BoardCall → Image
+run = left_by after
+
+abbrev pub answers : Image → List BoardCall → List BoardAnswer
+answers = answered_by after answer

@@ -1,0 +1,5 @@
+pub mod Images
+pub mod Results
+pub mod Calls
+pub mod Layers
+pub mod Laws

@@ -1,0 +1,3 @@
+pub mod Shields
+pub mod Tables
+pub mod Shown

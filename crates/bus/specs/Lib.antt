@@ -1,3 +1,0 @@
-pub mod Settings
-pub mod Views
-pub mod Ways

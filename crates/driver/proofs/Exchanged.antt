@@ -1,9 +1,0 @@
--- A bus goes through the bytes that are exchanged.
-use Rattle.std.proofs.Common.{refl}
-use Rattle.datasheet.specs.Kept.{bounded}
-use Rattle.spi.specs.Buses.{exchanged, read}
-use Rattle.bus.proofs.Listed.{Going}
-use Rattle.driver.specs.Exchanges.{all_exchanged, all_read}
-
-pub goes : Going (exchanged bounded) (read bounded) (all_exchanged bounded) (all_read bounded)
-goes = record { stays = λ m. refl; runs = λ m x xs. refl; ends = λ m. refl; answered = λ m x xs. refl }

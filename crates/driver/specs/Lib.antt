@@ -1,4 +1,0 @@
-pub mod Exchanges
-pub mod Drives
-pub mod Left
-pub mod Views

@@ -1,6 +1,0 @@
-pub mod Images
-pub mod Results
-pub mod Calls
-pub mod Layers
-pub mod Lent
-pub mod Laws

@@ -1,7 +1,0 @@
-use Rattle.std.proofs.Common.{rules}
-use Rattle.reports.specs.Visits.{on_board}
-use Rattle.reports.proofs.Parked.{goes}
-use Rattle.reports.proofs.board_report.Goals as goal
-
-pub returns-in-Ok-clause-visit : goal.returns-in-Ok-clause-visit
-returns-in-Ok-clause-visit c = goes on_board c.in-Ok.parked.sheet c.in-Ok.parked.stored.bits c.in-Ok.ensures.0 c.in-Ok.ensures.1 c.in-Ok.ensures.2 (search rules)

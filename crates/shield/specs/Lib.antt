@@ -1,2 +1,0 @@
-pub mod Shields
-pub mod Shown

@@ -1,0 +1,3 @@
+pub mod Behind
+pub mod Views
+pub mod Ways

@@ -1,0 +1,13 @@
+pub mod Clock
+pub mod Calls
+pub mod Keeps
+pub mod Whole
+pub mod AsCalls
+pub mod Sessions
+pub mod Pieces
+pub mod Rests
+pub mod SteppedBytes
+pub mod SteppedChips
+pub mod SteppedBuses
+pub mod Blank
+pub mod Aligned

@@ -1,0 +1,11 @@
+pub mod Puts
+pub mod Samples
+pub mod Moments
+pub mod Reads
+pub mod SteppedBytes
+pub mod Buses
+pub mod Turns
+pub mod Lines
+pub mod Meanings
+pub mod SteppedChips
+pub mod Laws
