@@ -1,12 +1,13 @@
 -- Plain memory: its image has no fence, and bytes put into it are bytes put into the image.
-use Rattle.std.proofs.Common.{◌≡◌, ℕ, zero, suc, ◌+◌, ◌-◌, ◌≤◌, min, true, List, [], ◌∷◌, ◌++◌, map, length, take, drop, None, Ok, sym, refl, ap, ap₂, ◌∙◌, suc-add, arith}
+use Rattle.std.proofs.Common.{◌≡◌, ℕ, ◌+◌, ◌-◌, ◌≤◌, min, true, List, [], ◌∷◌, ◌++◌, map, length, take, drop, None, Ok, refl, ap, ap₂, ◌∙◌, arith}
 use borrow.Rule.Slice.PartMut.{post_of, Post-is}
 use Rattle.std.proofs.lemmas.List.{drop-map, take-map, length-map, length-take}
-use Rattle.board_model.specs.Images.{most, inside, bytes_of, first_fenced, fence_in, overlaid, overwritten, free}
+use Rattle.board_model.specs.Images.{most, inside, first_fenced, fence_in, free}
 use Rattle.board_model.specs.Results.{range_result, fence_result, read_into, write_result, written}
-use Rattle.board_model.specs.Layers.{plain}
+use Rattle.board_model.specs.Layers.{plain, patched}
 use Rattle.board_model.proofs.Cells.{range_inside, range_fits}
-use Rattle.board.specs.Plains.{patched, memory_after}
+use Rattle.board_model.proofs.Plains.{bytes_free, patched_plain}
+use Rattle.board.specs.Plains.{memory_after}
 
 none_fenced : (at : ℕ) (bs : List ℕ) → first_fenced at (map free bs) ≡ None
 none_fenced at [] = refl
@@ -14,34 +15,6 @@ none_fenced at (b ∷ bs) = none_fenced (at + 1) bs
 
 no_fence : (memory : List ℕ) (s n : ℕ) → fence_in (plain memory) s n ≡ None
 no_fence memory s n = simp (drop-map, take-map) (none_fenced s (take n (drop s (take most memory))))
-
-bytes_free : (bs : List ℕ) → bytes_of (map free bs) ≡ bs
-bytes_free [] = refl
-bytes_free (b ∷ bs) = ap (λ t. b ∷ t) (bytes_free bs)
-
--- bytes put into the memory, as far as the limit lets them be seen
-overlaid_free : (xs bs : List ℕ) → length bs ≤ length xs → overlaid (map free xs) bs ≡ map free (bs ++ drop (length bs) xs)
-overlaid_free [] [] h = refl
-overlaid_free [] (b ∷ bs) h = absurd (omega arith)
-overlaid_free (x ∷ xs) [] h = refl
-overlaid_free (x ∷ xs) (b ∷ bs) h = ap (λ t. free b ∷ t) (overlaid_free xs bs (omega arith))
-
-take_front : (bs memory : List ℕ) (l : ℕ) → length bs ≤ l → length bs ≤ length memory → take l (bs ++ drop (length bs) memory) ≡ bs ++ drop (length bs) (take l memory)
-take_front [] memory l h k = refl
-take_front (b ∷ bs) [] l h k = absurd (omega arith)
-take_front (b ∷ bs) (x ∷ memory) zero h k = absurd (omega arith)
-take_front (b ∷ bs) (x ∷ memory) (suc l) h k = ap (λ t. b ∷ t) (take_front bs memory l (omega arith) (omega arith))
-
-patched_plain : (l s : ℕ) (memory bs : List ℕ) → s + length bs ≤ l → s + length bs ≤ length memory →
-    map free (take l (patched memory s bs)) ≡ overwritten (map free (take l memory)) s bs
-patched_plain l zero memory bs h k =
-    let z : 0 + length bs ≡ length bs = omega arith in
-    ap (λ (n : ℕ). map free (take l (bs ++ drop n memory))) z ∙ ap (map free) (take_front bs memory l (omega arith) (omega arith))
-    ∙ sym (overlaid_free (take l memory) bs (simp length-take (omega arith)))
-patched_plain l (suc s) [] bs h k = absurd (omega arith)
-patched_plain zero (suc s) (x ∷ memory) bs h k = absurd (omega arith)
-patched_plain (suc l) (suc s) (x ∷ memory) bs h k =
-    rw (suc-add s (length bs)) (ap (λ t. free x ∷ t) (patched_plain l s memory bs (omega arith) (omega arith)))
 
 -- ## The calls, where the range is not refused
 
@@ -72,7 +45,7 @@ module _ {u : Unit {0}} {cells : List ℕ} (memory : List ℕ) (s : ℕ) (bs : L
   write_done = rw (plain_inside memory s (length bs) all lies, no_fence memory s (length bs))
 
   pub memory_left : {new : List ℕ} → new ≡ bs → take s memory ++ (new ++ post_of s (s + length bs - s) memory) ≡ memory_after memory s bs
-  memory_left copied = rw (plain_inside memory s (length bs) all lies) (copied_in copied)
+  memory_left copied = rw (plain_inside memory s (length bs) all lies, no_fence memory s (length bs)) (copied_in copied)
 
   pub write_left : {new : List ℕ} → new ≡ bs → plain (take s memory ++ (new ++ post_of s (s + length bs - s) memory)) ≡ written (plain memory) s bs
   write_left copied =

@@ -1,12 +1,14 @@
 //! Boards: anything that means an image, and plain memory, the lowest of them.
 //!
-//! What it promises: each call of a board answers and leaves what the definitions say of its image, a refused call leaves image
-//! and buffer, and no call changes what a board was given.
+//! What it promises: each call of a board answers and leaves what the definitions say of its image; it leaves all that stands
+//! below the board, but for what an accepted write puts there; a refused call leaves the buffer; and no call changes what a
+//! board was given.
 #![tactic(auto)]
 
-ghost use Rattle.std.specs.Prelude.{◌≡◌, ◌≤◌, length};
+ghost use Rattle.std.specs.Prelude.{◌≡◌, ℕ, ◌≤◌, List, length, Option};
 ghost use Rattle.board_model.specs.Images.{Image, most};
-ghost use Rattle.board_model.specs.Results.{range_result, fence_result, read_result, read_into, write_result, written};
+ghost use Rattle.board_model.specs.Results.{range_result, fence_result, read_result, read_into, write_result, if_accepted, written};
+ghost use Rattle.board_model.specs.Beneath.{Standing};
 ghost use Rattle.std.specs.Borrow.{GName};
 
 mod plain;
@@ -28,22 +30,48 @@ pub fn check_range(start: usize, count: usize, size: usize) -> Result<(), Refusa
     }
 }
 
-/// A board means an image. Each call answers and leaves what the definitions say of it. An impl that says more repeats these
-/// clauses, since its own replace the trait's.
+/// A board means an image. Each call answers and leaves what the definitions say of it, and of what stands below the board. An
+/// impl that says more repeats these clauses, since its own replace the trait's.
 pub trait Board {
-    // The cells in order.
+    // The cells in order, at most 1,048,576.
     ghost image: { Self → Image };
+
+    ghost few: { (s : Self) → length (image s) ≤ most };
 
     // What it was given when it was made: no call puts another in the place of it.
     ghost Lent: { Type 0 };
 
     ghost lent: { Self → Lent };
 
+    // All that stands below it, of any type: whatever it was given or lent, as far as a call could change it. What an
+    // implementation leaves out of this is promised by nothing.
+    ghost Beneath: { Type 0 };
+
+    ghost beneath: { Self → Beneath };
+
+    // The image, by what stands below.
+    ghost shows: { Beneath → Image };
+
+    ghost shown: { (s : Self) → image s ≡ shows (beneath s) };
+
+    // What an accepted write from a start on makes of what stands below.
+    ghost put: { Beneath → ℕ → List ℕ → Beneath };
+
+    // Where a byte may stand below, the byte that stands there, and where that of a cell does.
+    ghost Place: { Type 0 };
+
+    ghost byte_at: { Beneath → Place → Option ℕ };
+
+    ghost stands: { Beneath → ℕ → Place };
+
+    ghost standing: { Standing shows put byte_at stands };
+
     /// The number of cells.
     fn size(&mut self) -> usize
         ensures answer { result ≡ length (image self.old) }
         ensures few { result ≤ most }
         ensures same { image self.new ≡ image self.old }
+        ensures beneath { beneath self.new ≡ beneath self.old }
         ensures lent { lent self.new ≡ lent self.old };
 
     /// The first fenced place among `count` places from `start` on: asked in the shape of a read and a write, whose count is the
@@ -51,6 +79,7 @@ pub trait Board {
     fn first_fence(&mut self, start: usize, count: usize) -> Result<Option<usize>, Refusal>
         ensures answer { result ≡ fence_result (image self.old) start count }
         ensures same { image self.new ≡ image self.old }
+        ensures beneath { beneath self.new ≡ beneath self.old }
         ensures lent { lent self.new ≡ lent self.old };
 
     /// Fills the buffer with the bytes from `start` on; a refused read leaves it.
@@ -58,12 +87,16 @@ pub trait Board {
         ensures answer { result ≡ read_result (image self.old) start (length buffer.old) }
         ensures filled { buffer.new ≡ read_into (image self.old) start buffer.old }
         ensures same { image self.new ≡ image self.old }
+        ensures beneath { beneath self.new ≡ beneath self.old }
         ensures lent { lent self.new ≡ lent self.old };
 
     /// Puts all bytes from `start` on, or none.
     fn write(&mut self, start: usize, bytes: &[u8]) -> Result<(), Refusal>
         ensures answer { result ≡ write_result (image self.old) start bytes.now }
         ensures after { image self.new ≡ written (image self.old) start bytes.now }
+        ensures beneath { beneath self.new ≡
+            if_accepted (write_result (image self.old) start bytes.now)
+            (put (beneath self.old) start bytes.now) (beneath self.old) }
         ensures lent { lent self.new ≡ lent self.old };
 }
 
@@ -71,9 +104,29 @@ pub trait Board {
 impl<B: Board> Board for &mut B {
     ghost image = { λ s. B.image s.now };
 
+    ghost few = { λ s. B.few s.now };
+
     ghost Lent = { GName × B.Lent };
 
     ghost lent = { λ s. (s.ghost_name, B.lent s.now) };
+
+    ghost Beneath = { B.Beneath };
+
+    ghost beneath = { λ s. B.beneath s.now };
+
+    ghost shows = { B.shows };
+
+    ghost shown = { λ s. B.shown s.now };
+
+    ghost put = { B.put };
+
+    ghost Place = { B.Place };
+
+    ghost byte_at = { B.byte_at };
+
+    ghost stands = { B.stands };
+
+    ghost standing = { B.standing };
 
     fn size(&mut self) -> usize {
         (**self).size()

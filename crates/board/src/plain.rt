@@ -1,9 +1,10 @@
-ghost use Rattle.std.specs.Prelude.{◌≡◌, ◌≤◌, length, take};
-ghost use Rattle.board_model.specs.Images.{most};
-ghost use Rattle.board_model.specs.Results.{fence_result, read_result, read_into, write_result, written};
-ghost use Rattle.board_model.specs.Layers.{plain};
+ghost use Rattle.std.specs.Prelude.{◌≡◌, ℕ, List, take, slice_get, refl};
 ghost use Rattle.std.specs.Borrow.{GName};
+ghost use Rattle.board_model.specs.Images.{most};
+ghost use Rattle.board_model.specs.Results.{write_result};
+ghost use Rattle.board_model.specs.Layers.{plain, patched};
 ghost use Rattle.board.specs.Plains.{plain_image, memory_after};
+ghost use Rattle.board_model.proofs.Plains.{plain_few, plain_standing};
 
 use crate::{Board, MOST, check_range};
 use datasheet::Refusal;
@@ -31,53 +32,52 @@ impl<'m> Plain<'m> {
     }
 }
 
-// Each call says what the memory holds afterwards (`memory`): a contract speaks of one call.
 impl Board for Plain<'_> {
     ghost image = { plain_image };
+
+    ghost few = { λ s. plain_few s.memory.now };
 
     ghost Lent = { GName };
 
     ghost lent = { λ s. s.memory.ghost_name };
 
-    fn size(&mut self) -> usize
-        ensures answer { result ≡ length (plain_image self.old) }
-        ensures few { result ≤ most }
-        ensures same { plain_image self.new ≡ plain_image self.old }
-        ensures lent { self.new.memory.ghost_name ≡ self.old.memory.ghost_name }
-        ensures memory { self.new.memory.now ≡ self.old.memory.now }
-    {
+    // The lent bytes, those past the limit too.
+    ghost Beneath = { List ℕ };
+
+    ghost beneath = { λ s. s.memory.now };
+
+    ghost shows = { plain };
+
+    ghost shown = { λ s. refl };
+
+    ghost put = { patched };
+
+    // A cell's byte stands at its own place of the memory.
+    ghost Place = { ℕ };
+
+    ghost byte_at = { slice_get };
+
+    ghost stands = { λ _ cell. cell };
+
+    ghost standing = { plain_standing };
+
+    fn size(&mut self) -> usize {
         self.cells().len()
     }
 
-    fn first_fence(&mut self, start: usize, count: usize) -> Result<Option<usize>, Refusal>
-        ensures answer { result ≡ fence_result (plain_image self.old) start count }
-        ensures same { plain_image self.new ≡ plain_image self.old }
-        ensures lent { self.new.memory.ghost_name ≡ self.old.memory.ghost_name }
-        ensures memory { self.new.memory.now ≡ self.old.memory.now }
-    {
+    fn first_fence(&mut self, start: usize, count: usize) -> Result<Option<usize>, Refusal> {
         check_range(start, count, self.cells().len())?;
         Ok(None)
     }
 
-    fn read(&mut self, start: usize, buffer: &mut [u8]) -> Result<(), Refusal>
-        ensures answer { result ≡ read_result (plain_image self.old) start (length buffer.old) }
-        ensures filled { buffer.new ≡ read_into (plain_image self.old) start buffer.old }
-        ensures same { plain_image self.new ≡ plain_image self.old }
-        ensures lent { self.new.memory.ghost_name ≡ self.old.memory.ghost_name }
-        ensures memory { self.new.memory.now ≡ self.old.memory.now }
-    {
+    fn read(&mut self, start: usize, buffer: &mut [u8]) -> Result<(), Refusal> {
         let cells = self.cells();
         check_range(start, buffer.len(), cells.len())?;
         buffer.copy_from_slice(&cells[start..start + buffer.len()]);
         Ok(())
     }
 
-    fn write(&mut self, start: usize, bytes: &[u8]) -> Result<(), Refusal>
-        ensures answer { result ≡ write_result (plain_image self.old) start bytes.now }
-        ensures after { plain_image self.new ≡ written (plain_image self.old) start bytes.now }
-        ensures lent { self.new.memory.ghost_name ≡ self.old.memory.ghost_name }
-        ensures memory { self.new.memory.now ≡ memory_after self.old.memory.now start bytes.now }
-    {
+    fn write(&mut self, start: usize, bytes: &[u8]) -> Result<(), Refusal> {
         check_range(start, bytes.len(), self.cells().len())?;
         self.memory[start..start + bytes.len()].copy_from_slice(bytes);
         Ok(())

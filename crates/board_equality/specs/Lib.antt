@@ -1,4 +1,5 @@
 pub mod Sides
 pub mod Fences
 pub mod Pairs
+pub mod Builds
 pub mod Law

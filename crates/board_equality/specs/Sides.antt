@@ -7,8 +7,9 @@ use Rattle.board_model.specs.declared.Cell.{Cell}
 abbrev pub fences_of : List Cell → List Bool
 fences_of cs = map (λ c. c.fenced) cs
 
--- a board that is kept: before and after, it means the same image and has what it was lent; `build` says of a
--- board of this build what these two are
+-- a board that is kept: before and after, it means the same image, the same stands below it, and it has what it was
+-- lent; `build` says of a board of this build what these are
 pub record Kept {B : Type 0} (build : Ghosts B) (before after : B) : Type 0 where
   pub image : build.image after ≡ build.image before
+  pub beneath : build.beneath after ≡ build.beneath before
   pub lent : build.lent after ≡ build.lent before

@@ -1,7 +1,7 @@
 //! Equality: two chips, or two boards, are equal exactly when nothing that can be sent to them tells them apart.
 //!
 //! What it promises: `compare` decides it for two chips and two boards, by calls alone on the boards, and leaves all four as they
-//! were; its contract names the law, whole.
+//! were, and what stands below the boards; its contract names the law, whole.
 #![tactic(auto)]
 
 mod boards;

@@ -1,17 +1,17 @@
 -- What the two boards of a join answer for their parts of a range that lies in the join, and what the join answers by it.
 use Rattle.std.proofs.Common.{◌≡◌, ℕ, ◌+◌, ◌-◌, ◌<◌, ◌≤◌, min, true, false, List, ◌++◌, length, take, drop, is_some, Some, None, Ok, Err, Option, Result, sym, refl, ap, ◌∙◌, arith}
-use Rattle.std.proofs.lemmas.List.{length-take, length-drop, map-append}
+use Rattle.std.proofs.lemmas.List.{length-take, map-append}
 use Rattle.std.specs.Option.{option_map, option_or, MatchOption, IsSomeAnd}
 use Rattle.datasheet.specs.declared.refusal.Refusal.{Refusal}
 use Rattle.datasheet.specs.declared.refusal.Refusal.TheVariants.{Fenced}
 use Rattle.board_model.specs.declared.Cell.{Cell}
-use Rattle.board_model.specs.Images.{Image, most, inside, part, bytes_of, fence_in, overwritten}
-use Rattle.board_model.specs.Results.{range_result, fence_result, read_result, read_into, unless_fenced, write_result, written, if_accepted}
-use Rattle.board_model.specs.Layers.{joined}
+use Rattle.board_model.specs.Images.{Image, most, inside, part, bytes_of, fence_in}
+use Rattle.board_model.specs.Results.{range_result, fence_result, read_result, read_into, unless_fenced, write_result, if_accepted}
+use Rattle.board_model.specs.Layers.{joined, front_of}
 use Rattle.board_model.proofs.Cells.{accepted_by, refused_by, range_inside, option_mapped}
 use Rattle.board_join.specs.declared.Cut.{Cut}
-use Rattle.board_join.specs.Joins.{front_of, cut_of, cut_result, written_first, written_second}
-use Rattle.board_join.proofs.Seams.{at_both, in_both, in_first, in_second, part_join, fence_join, fenced_below, written_min, join_overwritten}
+use Rattle.board_join.specs.Joins.{cut_of, cut_result}
+use Rattle.board_model.proofs.Joins.{at_both, in_both, in_first, in_second, part_join, fence_join, fenced_below, write_inside, length_front, length_back}
 
 -- ## Accepted or refused
 
@@ -26,9 +26,6 @@ fence_inside i s n o t e = simp (t, e)
 
 read_inside : (i : Image) (s n : ℕ) → inside i s n ≡ true → read_result i s n ≡ Ok tt
 read_inside i s n t = simp t
-
-write_inside : (i : Image) (s n : ℕ) (bs : List ℕ) → length bs ≡ n → inside i s n ≡ true → fence_in i s n ≡ None → write_result i s bs ≡ Ok tt
-write_inside i s n bs e t f = simp (e, t, f)
 
 decided : {r q : Result (Unit {0}) Refusal} (new old : Image) → r ≡ q → if_accepted r new old ≡ if_accepted q new old
 decided new old e = ap (λ (x : Result (Unit {0}) Refusal). if_accepted x new old) e
@@ -57,10 +54,10 @@ fence_refuses l (Some y) p e = refl
 -- ## A range that lies in the join, where a' and b' are what the boards show when they are asked
 
 pub record Parts (a' b' a b : Image) (s n : ℕ) (cut : Cut) : Type 0 where
-  first : a' ≡ a
-  second : b' ≡ b
-  lies : inside (joined a b) s n ≡ true
-  parted : cut ≡ cut_of a s n
+  pub first : a' ≡ a
+  pub second : b' ≡ b
+  pub lies : inside (joined a b) s n ≡ true
+  pub parted : cut ≡ cut_of a s n
 
 -- what `cut` tells if the range was not refused by the size of the join, or was
 pub cut_done : {u : Unit {0}} {size seam at ahead : ℕ} (a b : Image) (s n : ℕ) → size ≡ length (joined a b) → Ok u ≡ range_result size s n →
@@ -135,12 +132,6 @@ module _ {a' b' a b : Image} {s n : ℕ} {cut : Cut} (h : Parts a' b' a b s n cu
 filled : (i : Image) (s n : ℕ) (buffer : List ℕ) → length buffer ≡ n → inside i s n ≡ true → read_into i s buffer ≡ bytes_of (part i s n)
 filled i s n buffer e t = simp (e, t)
 
-length_front : (a : Image) (s : ℕ) (bs : List ℕ) → length (take (front_of a s (length bs)) bs) ≡ front_of a s (length bs)
-length_front a s bs = simp length-take (omega arith)
-
-length_back : (a : Image) (s : ℕ) (bs : List ℕ) → length (drop (front_of a s (length bs)) bs) ≡ length bs - (length a - s)
-length_back a s bs = simp length-drop (omega arith)
-
 module _ {a' b' a b : Image} {s : ℕ} {cut : Cut} {front back : List ℕ} (buffer : List ℕ) (h : Parts a' b' a b s (length buffer) cut)
     (f : front ≡ take cut.front.count buffer) (k : back ≡ drop cut.front.count buffer) where
   -- the second board does not refuse
@@ -164,9 +155,9 @@ module _ {a' b' a b : Image} {s : ℕ} {cut : Cut} {front back : List ℕ} (buff
 
 -- a range without a fence
 pub record Free (a' b' a b : Image) (s n : ℕ) (cut : Cut) : Type 0 where
-  parts : Parts a' b' a b s n cut
-  ahead : fence_in a (min s (length a)) (front_of a s n) ≡ None
-  behind : fence_in b (s - length a) (n - (length a - s)) ≡ None
+  pub parts : Parts a' b' a b s n cut
+  pub ahead : fence_in a (min s (length a)) (front_of a s n) ≡ None
+  pub behind : fence_in b (s - length a) (n - (length a - s)) ≡ None
 
 -- such is one of which neither board told a fence, where a'' and b'' are what they show after that
 pub free : {a'' b'' a' b' a b : Image} {s n : ℕ} {cut : Cut} {o r : Option ℕ} → Parts a' b' a b s n cut → a'' ≡ a' → b'' ≡ b' →
@@ -181,17 +172,17 @@ free h e f x y none =
 
 module _ {a' b' a b : Image} {s : ℕ} {cut : Cut} {front back : List ℕ} (bs : List ℕ) (h : Free a' b' a b s (length bs) cut)
     (f : front ≡ take cut.front.count bs) (k : back ≡ drop cut.front.count bs) where
-  first_put : write_result a' cut.front.start front ≡ Ok tt
+  pub first_put : write_result a' cut.front.start front ≡ Ok tt
   first_put =
       rw (f, h.parts.first, h.parts.parted)
       (write_inside a (min s (length a)) (front_of a s (length bs)) (take (front_of a s (length bs)) bs) (length_front a s bs) (in_first a s (length bs)) h.ahead)
 
-  second_put : write_result b' cut.back.start back ≡ Ok tt
+  pub second_put : write_result b' cut.back.start back ≡ Ok tt
   second_put =
       rw (k, h.parts.second, h.parts.parted)
       (write_inside b (s - length a) (length bs - (length a - s)) (drop (front_of a s (length bs)) bs) (length_back a s bs) (in_second a b s (length bs) h.parts.lies) h.behind)
 
-  both_put : write_result (joined a b) s bs ≡ Ok tt
+  pub both_put : write_result (joined a b) s bs ≡ Ok tt
   both_put =
       write_inside (joined a b) s (length bs) bs refl h.parts.lies
       (fence_join a b s (length bs) h.parts.lies ∙ at_both (λ (v w : Option ℕ). option_or v (option_map (λ (j : ℕ). length a + j) w)) h.ahead h.behind)
@@ -200,40 +191,10 @@ module _ {a' b' a b : Image} {s : ℕ} {cut : Cut} {front back : List ℕ} (bs :
   pub write_answered : write_result b' cut.back.start back ≡ write_result (joined a b) s bs
   write_answered = second_put ∙ sym both_put
 
-  -- each board is left as the join's write says
-  pub first_written : {i : Image} → i ≡ written a' cut.front.start front → i ≡ written_first a b s bs
-  first_written i-is =
-      i-is
-      ∙ decided (overwritten a' cut.front.start front) a' first_put
-      ∙ rw (f, h.parts.first, h.parts.parted) (written_min a s (take (front_of a s (length bs)) bs))
-      ∙ sym (decided (overwritten a s (take (front_of a s (length bs)) bs)) a both_put)
-
-  pub second_written : {i : Image} → i ≡ written b' cut.back.start back → i ≡ written_second a b s bs
-  second_written i-is =
-      i-is
-      ∙ decided (overwritten b' cut.back.start back) b' second_put
-      ∙ rw (k, h.parts.second, h.parts.parted) refl
-      ∙ sym (decided (overwritten b (s - length a) (drop (front_of a s (length bs)) bs)) b both_put)
-
--- a fence in either part refuses the write, and both boards are left
+-- a fence in either part refuses the write
 module _ {a' b' a b : Image} {s : ℕ} {cut : Cut} {o r : Option ℕ} (bs : List ℕ) (h : Parts a' b' a b s (length bs) cut)
     (x : Ok o ≡ fence_result a' cut.front.start cut.front.count) (y : Ok r ≡ fence_result b' cut.back.start cut.back.count) (some : true ≡ is_some (option_or o r)) where
   pub write_refused : write_result (joined a b) s bs ≡ Err Fenced
   write_refused =
       let m : write_result (joined a b) s bs ≡ unless_fenced (fence_in (joined a b) s (length bs)) = simp h.lies in
       m ∙ ap unless_fenced (fence_said h x y) ∙ fence_refuses (length a) o r some
-
-  pub first_left : a' ≡ written_first a b s bs
-  first_left = h.first ∙ sym (decided _ _ write_refused)
-
-  pub second_left : b' ≡ written_second a b s bs
-  second_left = h.second ∙ sym (decided _ _ write_refused)
-
--- what a write leaves in both is what it leaves in the join
-pub both_written : {a'' b'' : Image} (a b : Image) (s : ℕ) (bs : List ℕ) → a'' ≡ written_first a b s bs → b'' ≡ written_second a b s bs → joined a'' b'' ≡ written (joined a b) s bs
-both_written a b s bs p q =
-    at_both joined p q ∙ go (write_result (joined a b) s bs) _ _ _ (join_overwritten a b s bs)
-  where
-    go : (r : Result (Unit {0}) Refusal) (x y z : Image) → joined x y ≡ z → joined (if_accepted r x a) (if_accepted r y b) ≡ if_accepted r z (joined a b)
-    go (Ok u) x y z e = e
-    go (Err r) x y z e = refl

@@ -1,2 +1,2 @@
-pub mod Seams
 pub mod Halves
+pub mod Parted

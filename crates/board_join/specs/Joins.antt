@@ -1,10 +1,10 @@
--- What a join shows of the two boards below, and what a write to it leaves in each.
-use Rattle.std.specs.Prelude.{ℕ, ◌-◌, min, if◌then◌else◌, List, length, take, drop, Ok, Err, Result}
+-- What a join shows of the two boards below, and where a range of it lies in each.
+use Rattle.std.specs.Prelude.{ℕ, ◌-◌, min, if◌then◌else◌, length, Ok, Err, Result}
 use Rattle.datasheet.specs.declared.refusal.Refusal.{Refusal}
 use Rattle.datasheet.specs.declared.refusal.Refusal.TheVariants.{OutOfRange}
-use Rattle.board_model.specs.Images.{Image, inside, overwritten}
-use Rattle.board_model.specs.Results.{write_result, if_accepted}
-use Rattle.board_model.specs.Layers.{joined}
+use Rattle.board_model.specs.Images.{Image, inside}
+use Rattle.board_model.specs.Layers.{joined, front_of}
+use Rattle.board_model.specs.JoinBeneath.{JoinBeneath}
 use Rattle.board_join.specs.declared.Join.{Join}
 use Rattle.board_join.specs.declared.Cut.{Cut}
 
@@ -14,21 +14,10 @@ join_image image_a image_b j = joined (image_a j.first) (image_b j.second)
 abbrev pub join_lent : {A B K L : Type 0} → (A → K) → (B → L) → Join A B → K × L
 join_lent lent_a lent_b j = (lent_a j.first, lent_b j.second)
 
--- how many of a range's places lie in the first board
-abbrev pub front_of : Image → ℕ → ℕ → ℕ
-front_of a start count = min count (length a - start)
-
--- the first board after a write to the join: if that is accepted, the bytes that lie in it
-abbrev pub written_first : Image → Image → ℕ → List ℕ → Image
-written_first a b start bytes =
-    let front : List ℕ = take (front_of a start (length bytes)) bytes in
-    if_accepted (write_result (joined a b) start bytes) (overwritten a start front) a
-
--- the second board after it: the bytes behind those
-abbrev pub written_second : Image → Image → ℕ → List ℕ → Image
-written_second a b start bytes =
-    let back : List ℕ = drop (front_of a start (length bytes)) bytes in
-    if_accepted (write_result (joined a b) start bytes) (overwritten b (start - length a) back) b
+-- all that stands below both
+abbrev pub join_beneath : {A B F S : Type 0} → (A → F) → (B → S) → Join A B → JoinBeneath F S
+join_beneath beneath_a beneath_b j =
+    record { first = beneath_a j.first; second = beneath_b j.second }
 
 -- where a range of the join lies in the two boards: the size of the first, and its parts in the first and in
 -- the second

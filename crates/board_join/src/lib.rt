@@ -1,13 +1,13 @@
 //! A join: two boards, one after the other, as a board.
 //!
-//! What it promises: that of a board, for the cells of both, cut at 1,048,576; a write puts all its bytes or none; and what both
-//! boards are at exit.
+//! What it promises: that of a board, for the cells of both, cut at 1,048,576; a write puts all its bytes or none.
 #![tactic(auto)]
 
-ghost use Rattle.std.specs.Prelude.{◌≡◌, ◌≤◌, length};
-ghost use Rattle.board_model.specs.Images.{most};
-ghost use Rattle.board_model.specs.Results.{fence_result, read_result, read_into, write_result, written};
-ghost use Rattle.board_join.specs.Joins.{join_image, join_lent, cut_result, written_first, written_second};
+ghost use Rattle.std.specs.Prelude.{◌≡◌};
+ghost use Rattle.board_join.specs.Joins.{join_image, join_lent, join_beneath, cut_result};
+ghost use Rattle.board_model.specs.JoinBeneath.{JoinBeneath, JoinPlace, join_shows, join_put, join_byte_at, join_stands};
+ghost use Rattle.board_model.proofs.Joins.{join_few, join_shown};
+ghost use Rattle.board_model.proofs.JoinBeneath.{join_standing};
 
 use board::{Board, MOST, check_range};
 use board_model::Range;
@@ -43,6 +43,8 @@ impl<A: Board, B: Board> Join<A, B> {
             cut_result (A.image self.old.first) (B.image self.old.second) start count }
         ensures first { A.image self.new.first ≡ A.image self.old.first }
         ensures second { B.image self.new.second ≡ B.image self.old.second }
+        ensures beneath_first { A.beneath self.new.first ≡ A.beneath self.old.first }
+        ensures beneath_second { B.beneath self.new.second ≡ B.beneath self.old.second }
         ensures lent_first { A.lent self.new.first ≡ A.lent self.old.first }
         ensures lent_second { B.lent self.new.second ≡ B.lent self.old.second }
     {
@@ -64,32 +66,38 @@ impl<A: Board, B: Board> Join<A, B> {
     }
 }
 
-// Each call says what the boards joined are afterwards (`first`, `second`): a contract speaks of one call.
 impl<A: Board, B: Board> Board for Join<A, B> {
     ghost image = { join_image A.image B.image };
+
+    ghost few = { λ s. join_few (A.image s.first) (B.image s.second) };
 
     ghost Lent = { A.Lent × B.Lent };
 
     ghost lent = { join_lent A.lent B.lent };
 
-    fn size(&mut self) -> usize
-        ensures answer { result ≡ length (join_image A.image B.image self.old) }
-        ensures few { result ≤ most }
-        ensures same { join_image A.image B.image self.new ≡ join_image A.image B.image self.old }
-        ensures lent { join_lent A.lent B.lent self.new ≡ join_lent A.lent B.lent self.old }
-        ensures first { A.image self.new.first ≡ A.image self.old.first }
-        ensures second { B.image self.new.second ≡ B.image self.old.second }
-    {
+    ghost Beneath = { JoinBeneath A.Beneath B.Beneath };
+
+    ghost beneath = { join_beneath A.beneath B.beneath };
+
+    ghost shows = { join_shows A.shows B.shows };
+
+    ghost shown = { λ s. join_shown (A.shown s.first) (B.shown s.second) };
+
+    ghost put = { join_put A.shows A.put B.put };
+
+    ghost Place = { JoinPlace A.Place B.Place };
+
+    ghost byte_at = { join_byte_at A.byte_at B.byte_at };
+
+    ghost stands = { join_stands A.shows A.stands B.stands };
+
+    ghost standing = { join_standing A.standing B.standing };
+
+    fn size(&mut self) -> usize {
         MOST.min(self.first.size() + self.second.size())
     }
 
-    fn first_fence(&mut self, start: usize, count: usize) -> Result<Option<usize>, Refusal>
-        ensures answer { result ≡ fence_result (join_image A.image B.image self.old) start count }
-        ensures same { join_image A.image B.image self.new ≡ join_image A.image B.image self.old }
-        ensures lent { join_lent A.lent B.lent self.new ≡ join_lent A.lent B.lent self.old }
-        ensures first { A.image self.new.first ≡ A.image self.old.first }
-        ensures second { B.image self.new.second ≡ B.image self.old.second }
-    {
+    fn first_fence(&mut self, start: usize, count: usize) -> Result<Option<usize>, Refusal> {
         let cut = self.cut(start, count)?;
         let ahead = self.first.first_fence(cut.front.start, cut.front.count)?;
         // The second board is asked only where the first has no fence; by `or_else` its refusal could not go up by `?`.
@@ -100,33 +108,14 @@ impl<A: Board, B: Board> Board for Join<A, B> {
         Ok(behind.map(|place| cut.seam + place))
     }
 
-    fn read(&mut self, start: usize, buffer: &mut [u8]) -> Result<(), Refusal>
-        ensures answer { result ≡
-            read_result (join_image A.image B.image self.old) start (length buffer.old) }
-        ensures filled { buffer.new ≡
-            read_into (join_image A.image B.image self.old) start buffer.old }
-        ensures same { join_image A.image B.image self.new ≡ join_image A.image B.image self.old }
-        ensures lent { join_lent A.lent B.lent self.new ≡ join_lent A.lent B.lent self.old }
-        ensures first { A.image self.new.first ≡ A.image self.old.first }
-        ensures second { B.image self.new.second ≡ B.image self.old.second }
-    {
+    fn read(&mut self, start: usize, buffer: &mut [u8]) -> Result<(), Refusal> {
         let cut = self.cut(start, buffer.len())?;
         let (front, back) = buffer.split_at_mut(cut.front.count);
         self.first.read(cut.front.start, front)?;
         self.second.read(cut.back.start, back)
     }
 
-    fn write(&mut self, start: usize, bytes: &[u8]) -> Result<(), Refusal>
-        ensures answer { result ≡
-            write_result (join_image A.image B.image self.old) start bytes.now }
-        ensures after { join_image A.image B.image self.new ≡
-            written (join_image A.image B.image self.old) start bytes.now }
-        ensures lent { join_lent A.lent B.lent self.new ≡ join_lent A.lent B.lent self.old }
-        ensures first { A.image self.new.first ≡
-            written_first (A.image self.old.first) (B.image self.old.second) start bytes.now }
-        ensures second { B.image self.new.second ≡
-            written_second (A.image self.old.first) (B.image self.old.second) start bytes.now }
-    {
+    fn write(&mut self, start: usize, bytes: &[u8]) -> Result<(), Refusal> {
         let cut = self.cut(start, bytes.len())?;
         // Both boards are asked before either is written.
         let ahead = self.first.first_fence(cut.front.start, cut.front.count)?;

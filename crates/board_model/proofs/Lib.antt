@@ -1,2 +1,12 @@
+pub mod Below
 pub mod Cells
+pub mod Standing
+pub mod Plains
+pub mod Fenced
+pub mod Windows
+pub mod WindowBeneath
+pub mod Joins
+pub mod JoinBeneath
+pub mod Shields
+pub mod ShieldBeneath
 pub mod Told

@@ -1,5 +1,5 @@
 -- An image: what a board means, its cells in order.
-use Rattle.std.specs.Prelude.{ℕ, ◌+◌, Bool, false, if◌then◌else◌, List, [], ◌∷◌, ◌++◌, map, length, take, drop, Some, None, Option, nat_le}
+use Rattle.std.specs.Prelude.{ℕ, ◌+◌, Bool, true, false, if◌then◌else◌, List, [], ◌∷◌, ◌++◌, map, length, take, drop, Some, None, Option, nat_le}
 use Rattle.board_model.specs.declared.Cell.{Cell}
 
 abbrev pub Image : Type 0
@@ -43,3 +43,7 @@ overwritten i start bytes = take start i ++ overlaid (drop start i) bytes
 -- a free cell
 abbrev pub free : ℕ → Cell
 free byte = record { byte = byte; fenced = false }
+
+-- a fenced cell
+abbrev pub fenced : ℕ → Cell
+fenced byte = record { byte = byte; fenced = true }

@@ -1,5 +1,9 @@
 pub mod Images
 pub mod Results
+pub mod Beneath
 pub mod Calls
 pub mod Layers
+pub mod WindowBeneath
+pub mod JoinBeneath
+pub mod ShieldBeneath
 pub mod Laws

@@ -31,8 +31,8 @@ abbrev pub write_result : Image → ℕ → List ℕ → Result (Unit {0}) Refus
 write_result i start bytes =
     if inside i start (length bytes) then unless_fenced (fence_in i start (length bytes)) else Err OutOfRange
 
--- the new image if the call was accepted, else the old one
-abbrev pub if_accepted : Result (Unit {0}) Refusal → Image → Image → Image
+-- the new one if the call was accepted, else the old one
+abbrev pub if_accepted : {X : Type 0} → Result (Unit {0}) Refusal → X → X → X
 if_accepted (Ok u) new old = new
 if_accepted (Err e) new old = old
 

@@ -1,6 +1,7 @@
 //! The terms of boards as types, with the definitions of what a board holds and answers (specs/).
 //!
-//! What it promises: two boards have equal images exactly when no list of calls tells them apart; `equality` takes it up.
+//! What it promises: two boards have equal images exactly when no list of calls that can be sent tells them apart;
+//! `board_equality` takes it up.
 #![tactic(auto)]
 
 /// One place of a board: its byte, and whether it is fenced, that is kept from being written.

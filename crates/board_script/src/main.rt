@@ -3,50 +3,17 @@
 //! number of the refusal and the place of the kind byte in two bytes.
 #![tactic(auto)]
 
-ghost use Rattle.std.specs.Prelude.{◌≡◌};
-ghost use Rattle.board_script.specs.Faults.{fault_bytes};
-
-use datasheet::{Part, Sheet};
-use script_reports::{Report, board_report};
+use script_reports::{ANSWER_BYTES, SCRIPT_BYTES, Target, output};
 use std::io;
 use std::io::{Read, Write};
 
-/// The bytes of a script that are taken.
-const MOST: usize = 4096;
-
-/// The cells of an MB85RS64VY.
-const CELLS: usize = 8192;
-
-/// What is written of a script with a fault.
-fn fault_bytes(report: Report) -> [u8; 4]
-    ensures { result ≡ fault_bytes report }
-{
-    let [.., number] = report.refusal.to_be_bytes();
-    let [.., high, low] = report.place.to_be_bytes();
-    [0x7E, number, high, low]
-}
-
 fn main(rt: HostRuntime) -> io::Result<()> {
-    let mut script = Vec::new(rt.alloc());
+    let mut input = Vec::new(rt.alloc());
     // `usize` to `u64` has no `From`
-    rt.stdin().take(MOST as u64).read_to_end(&mut script)?;
-    // nine bytes for each step, and a step has one byte at least
-    let mut answers = [0u8; 9 * MOST];
-    let mut memory = [0u8; CELLS];
-    let sheet = Sheet::of(Part::Mb85rs64vy, 0x00, 0x02);
-    let report = board_report(
-        sheet.t,
-        sheet.f,
-        sheet.marks,
-        0,
-        &mut memory,
-        &script,
-        &mut answers,
-    );
-    match report.refusal {
-        0 => rt
-            .stdout()
-            .write_all(&answers[..report.answer_bytes as usize]),
-        _ => rt.stdout().write_all(&fault_bytes(report)),
-    }
+    rt.stdin()
+        .take(SCRIPT_BYTES as u64)
+        .read_to_end(&mut input)?;
+    let mut bytes = [0; ANSWER_BYTES];
+    let length = output(Target::Board, &input, &mut bytes);
+    rt.stdout().write_all(&bytes[..length])
 }

@@ -1,55 +1,20 @@
 -- What a shield shows, by the image below it.
-use Rattle.std.proofs.Common.{◌≡◌, ℕ, zero, suc, ◌+◌, ◌≤◌, Bool, true, false, cond, ◌||◌, leb, List, [], ◌∷◌, length, take, drop, is_some, Some, None, Ok, Err, Option, Result, sym, refl, ap, ◌∙◌, add-zero, arith, leb-true}
+use Rattle.std.proofs.Common.{◌≡◌, ℕ, ◌+◌, ◌≤◌, Bool, true, false, cond, List, [], ◌∷◌, length, is_some, Some, None, Ok, Err, Option, Result, sym, refl, ap, ◌∙◌, arith, leb-true}
 use Rattle.std.proofs.lemmas.List.{length-take, length-drop}
 use Rattle.datasheet.specs.declared.refusal.Refusal.{Refusal}
 use Rattle.datasheet.specs.declared.refusal.Refusal.TheVariants.{Fenced}
 use Rattle.board_model.specs.declared.Cell.{Cell}
 use Rattle.board_model.specs.declared.Range.{Range}
-use Rattle.board_model.specs.Images.{Image, inside, part, bytes_of, first_fenced, fence_in, overlaid, overwritten}
-use Rattle.board_model.specs.Results.{fence_result, read_result, read_into, unless_fenced, write_result, if_accepted, written}
+use Rattle.board_model.specs.Images.{Image, inside, part, bytes_of, first_fenced, fence_in}
+use Rattle.board_model.specs.Results.{fence_result, read_result, read_into, unless_fenced, write_result}
 use Rattle.board_model.specs.Layers.{covered, shielded_from, shielded}
 use Rattle.board_model.proofs.Cells.{accepted_by, refused_by}
 use Rattle.board_shield.specs.Shields.{first_covered, earlier}
+use Rattle.board_model.proofs.Shields.{length_shield, part_shield, bytes_shield, inside_shield}
 use Rattle.board_shield.proofs.Tables.{cover_late, earlier_step}
 use Rattle.std.proofs.Math.Bool.{or_comm}
 
 module _ (rs : List Range) where
-  -- ## Lists
-
-  pub length_shield : (at : ℕ) (cs : List Cell) → length (shielded_from at rs cs) ≡ length cs
-  length_shield at [] = refl
-  length_shield at (c ∷ cs) = ap suc (length_shield (at + 1) cs)
-
-  take_shield : (n at : ℕ) (cs : List Cell) → take n (shielded_from at rs cs) ≡ shielded_from at rs (take n cs)
-  take_shield zero at cs = refl
-  take_shield (suc n) at [] = refl
-  take_shield (suc n) at (c ∷ cs) = ap (λ t. record { byte = c.byte; fenced = c.fenced || covered rs at } ∷ t) (take_shield n (at + 1) cs)
-
-  drop_shield : (n at : ℕ) (cs : List Cell) → drop n (shielded_from at rs cs) ≡ shielded_from (at + n) rs (drop n cs)
-  drop_shield zero at cs = rw (add-zero at)
-  drop_shield (suc n) at [] = refl
-  drop_shield (suc n) at (c ∷ cs) = let e : at + 1 + n ≡ at + suc n = omega arith in drop_shield n (at + 1) cs ∙ ap (λ (k : ℕ). shielded_from k rs (drop n cs)) e
-
-  pub part_shield : (i : Image) (s n : ℕ) → part (shielded rs i) s n ≡ shielded_from s rs (part i s n)
-  part_shield i s n = let e : 0 + s ≡ s = omega arith in ap (take n) (drop_shield s 0 i ∙ ap (λ (k : ℕ). shielded_from k rs (drop s i)) e) ∙ take_shield n s (drop s i)
-
-  pub bytes_shield : (at : ℕ) (cs : List Cell) → bytes_of (shielded_from at rs cs) ≡ bytes_of cs
-  bytes_shield at [] = refl
-  bytes_shield at (c ∷ cs) = ap (λ t. c.byte ∷ t) (bytes_shield (at + 1) cs)
-
-  overlaid_shield : (at : ℕ) (cs : List Cell) (bs : List ℕ) → overlaid (shielded_from at rs cs) bs ≡ shielded_from at rs (overlaid cs bs)
-  overlaid_shield at [] bs = refl
-  overlaid_shield at (c ∷ cs) [] = refl
-  overlaid_shield at (c ∷ cs) (b ∷ bs) = ap (λ t. record { byte = b; fenced = c.fenced || covered rs at } ∷ t) (overlaid_shield (at + 1) cs bs)
-
-  overwritten_from : (s at : ℕ) (i : Image) (bs : List ℕ) → overwritten (shielded_from at rs i) s bs ≡ shielded_from at rs (overwritten i s bs)
-  overwritten_from zero at i bs = overlaid_shield at i bs
-  overwritten_from (suc s) at [] bs = refl
-  overwritten_from (suc s) at (c ∷ i) bs = ap (λ t. record { byte = c.byte; fenced = c.fenced || covered rs at } ∷ t) (overwritten_from s (at + 1) i bs)
-
-  pub overwritten_shield : (i : Image) (s : ℕ) (bs : List ℕ) → overwritten (shielded rs i) s bs ≡ shielded rs (overwritten i s bs)
-  overwritten_shield i s bs = overwritten_from s 0 i bs
-
   -- ## The first fence: the earlier of the shield's and the board's
 
   fence_late : (at f : ℕ) (cs : List Cell) → first_fenced at cs ≡ Some f → at ≤ f
@@ -69,37 +34,34 @@ module _ (rs : List Range) where
 
   -- ## The calls
 
-  inside_shield : (i : Image) (s n : ℕ) → inside (shielded rs i) s n ≡ inside i s n
-  inside_shield i s n = ap (leb (s + n)) (length_shield 0 i)
-
   fence_in_range : (i : Image) (s n : ℕ) → inside i s n ≡ true → fence_in (shielded rs i) s n ≡ earlier (first_covered rs s n) (fence_in i s n)
   fence_in_range i s n t =
       let h = leb-true (s + n) (length i) t in
       let l : length (part i s n) ≡ n = simp (length-take, length-drop) (omega arith) in
-      ap (first_fenced s) (part_shield i s n) ∙ fence_shield s (part i s n) ∙ ap (λ (k : ℕ). earlier (first_covered rs s k) (fence_in i s n)) l
+      ap (first_fenced s) (part_shield rs i s n) ∙ fence_shield s (part i s n) ∙ ap (λ (k : ℕ). earlier (first_covered rs s k) (fence_in i s n)) l
 
   -- the fence question, by what the board below answered
   pub fence_answer : (i : Image) (s n : ℕ) (found : Option ℕ) → Ok found ≡ fence_result i s n →
       Ok (earlier (first_covered rs s n) found) ≡ fence_result (shielded rs i) s n
   fence_answer i s n found e =
       let t = accepted_by (inside i s n) e in
-      rw (inside_shield i s n, t.0, fence_in_range i s n t.0) (ap (λ (o : Option ℕ). Ok (earlier (first_covered rs s n) o)) t.1)
+      rw (inside_shield rs i s n, t.0, fence_in_range i s n t.0) (ap (λ (o : Option ℕ). Ok (earlier (first_covered rs s n) o)) t.1)
 
   pub fence_refused : (i : Image) (s n : ℕ) (x : Refusal) → ◌≡◌ {A = Result (Option ℕ) Refusal} (Err x) (fence_result i s n) →
       ◌≡◌ {A = Result (Option ℕ) Refusal} (Err x) (fence_result (shielded rs i) s n)
-  fence_refused i s n x e = let t = refused_by (inside i s n) (fence_in i s n) e in rw (inside_shield i s n, t.0, t.1) refl
+  fence_refused i s n x e = let t = refused_by (inside i s n) (fence_in i s n) e in rw (inside_shield rs i s n, t.0, t.1) refl
 
   pub read_same : (i : Image) (s n : ℕ) → read_result i s n ≡ read_result (shielded rs i) s n
-  read_same i s n = rw (inside_shield i s n) refl
+  read_same i s n = rw (inside_shield rs i s n) refl
 
   pub into_same : (i : Image) (s : ℕ) (buffer : List ℕ) → read_into i s buffer ≡ read_into (shielded rs i) s buffer
   into_same i s buffer =
       let n = length buffer in
-      let b : bytes_of (part (shielded rs i) s n) ≡ bytes_of (part i s n) = ap bytes_of (part_shield i s n) ∙ bytes_shield s (part i s n) in
-      rw (inside_shield i s n, b) refl
+      let b : bytes_of (part (shielded rs i) s n) ≡ bytes_of (part i s n) = ap bytes_of (part_shield rs i s n) ∙ bytes_shield rs s (part i s n) in
+      rw (inside_shield rs i s n, b) refl
 
   pub size_same : (i : Image) → length i ≡ length (shielded rs i)
-  size_same i = sym (length_shield 0 i)
+  size_same i = sym (length_shield rs 0 i)
 
   -- a write, by what the shield answers to the fence question: it refuses, or the board below decides
   pub write_refused : (i : Image) (s : ℕ) (bs : List ℕ) (x : Refusal) → Err x ≡ fence_result (shielded rs i) s (length bs) → write_result (shielded rs i) s bs ≡ Err x
@@ -120,7 +82,7 @@ module _ (rs : List Range) where
   passed i s bs told none =
       let n = length bs in
       let t = accepted_by (inside (shielded rs i) s n) told in
-      let u : inside i s n ≡ true = sym (inside_shield i s n) ∙ t.0 in
+      let u : inside i s n ≡ true = sym (inside_shield rs i s n) ∙ t.0 in
       let f = fence_in_range i s n u in
       rw (t.0, u, f) (go (first_covered rs s n) (fence_in i s n) (none ∙ ap is_some (t.1 ∙ f)))
     where
@@ -128,27 +90,3 @@ module _ (rs : List Range) where
       go None y e = refl
       go (Some x) None e = absurd (cc)
       go (Some x) (Some y) e = absurd (cc)
-
-  -- what is shown after the board below was written
-  pub shown_after : (r : Result (Unit {0}) Refusal) (i : Image) (s : ℕ) (bs : List ℕ) →
-      shielded rs (if_accepted r (overwritten i s bs) i) ≡ if_accepted r (overwritten (shielded rs i) s bs) (shielded rs i)
-  shown_after (Ok u) i s bs = sym (overwritten_shield i s bs)
-  shown_after (Err e) i s bs = refl
-
-  -- a refused write leaves what is shown, and what is below
-  pub left_shown : {e : Refusal} (i : Image) (s : ℕ) (bs : List ℕ) → write_result (shielded rs i) s bs ≡ Err e →
-      shielded rs i ≡ written (shielded rs i) s bs
-  left_shown i s bs o = rw (o) refl
-
-  pub left_below : {e : Refusal} (i : Image) (s : ℕ) (bs : List ℕ) → write_result (shielded rs i) s bs ≡ Err e →
-      i ≡ if_accepted (write_result (shielded rs i) s bs) (overwritten i s bs) i
-  left_below i s bs o = rw (o) refl
-
-  -- a write that the shield lets through leaves what is written below
-  pub shown_written : (i j : Image) (s : ℕ) (bs : List ℕ) → write_result (shielded rs i) s bs ≡ write_result i s bs → j ≡ written i s bs →
-      shielded rs j ≡ written (shielded rs i) s bs
-  shown_written i j s bs o e = rw (o, e) (shown_after (write_result i s bs) i s bs)
-
-  pub below_written : (i j : Image) (s : ℕ) (bs : List ℕ) → write_result (shielded rs i) s bs ≡ write_result i s bs → j ≡ written i s bs →
-      j ≡ if_accepted (write_result (shielded rs i) s bs) (overwritten i s bs) i
-  below_written i j s bs o e = rw (o) e

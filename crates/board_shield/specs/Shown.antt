@@ -1,9 +1,9 @@
--- What a shield shows of the board below, and what a write through it leaves there.
-use Rattle.std.specs.Prelude.{ℕ, List}
+-- What a shield shows of the board below, and what it was given.
+use Rattle.std.specs.Prelude.{List}
 use Rattle.board_model.specs.declared.Range.{Range}
-use Rattle.board_model.specs.Images.{Image, overwritten}
-use Rattle.board_model.specs.Results.{write_result, if_accepted}
+use Rattle.board_model.specs.Images.{Image}
 use Rattle.board_model.specs.Layers.{shielded}
+use Rattle.board_model.specs.ShieldBeneath.{ShieldBeneath}
 use Rattle.board_shield.specs.declared.layer.Shield.{Shield}
 use Rattle.board_shield.specs.Tables.{ranges_of}
 
@@ -13,7 +13,6 @@ shield_image image s = shielded (ranges_of s.ranges) (image s.below)
 abbrev pub shield_lent : {B L : Type 0} → (B → L) → Shield B → List Range × L
 shield_lent lent s = (ranges_of s.ranges, lent s.below)
 
--- the board below after a write through a shield: the bytes, if the shield accepted the write
-abbrev pub written_below : List Range → Image → ℕ → List ℕ → Image
-written_below ranges i start bytes =
-    if_accepted (write_result (shielded ranges i) start bytes) (overwritten i start bytes) i
+-- all that stands below, with the shield's ranges
+abbrev pub shield_beneath : {B G : Type 0} → (B → G) → Shield B → ShieldBeneath G
+shield_beneath beneath s = record { ranges = ranges_of s.ranges; below = beneath s.below }

@@ -1,11 +1,14 @@
-ghost use Rattle.std.specs.Prelude.{◌≡◌, ◌≤◌, List, [], ◌∷◌, ◌++◌, length, if◌then◌else◌, Ok, Err, nat_lt};
+ghost use Rattle.std.specs.Prelude.{◌≡◌, List, [], ◌∷◌, ◌++◌, length, if◌then◌else◌, Ok, Err, nat_lt};
+ghost use Rattle.std.proofs.Common.{ap};
 ghost use Rattle.datasheet.specs.declared.refusal.Refusal.TheVariants.{OutOfRange, ShieldFull};
 ghost use Rattle.board_model.specs.declared.Range.{Range};
-ghost use Rattle.board_model.specs.Images.{most};
-ghost use Rattle.board_model.specs.Results.{fence_result, read_result, read_into, write_result, written};
+ghost use Rattle.board_model.specs.Layers.{stopped, shielded};
 ghost use Rattle.board_shield.specs.Shields.{widened_at, earlier};
 ghost use Rattle.board_shield.specs.Tables.{ranges_of};
-ghost use Rattle.board_shield.specs.Shown.{shield_image, shield_lent, written_below};
+ghost use Rattle.board_shield.specs.Shown.{shield_image, shield_lent, shield_beneath};
+ghost use Rattle.board_model.specs.ShieldBeneath.{ShieldBeneath, shield_shows, shield_put, shield_byte_at, shield_stands};
+ghost use Rattle.board_model.proofs.Shields.{shield_few};
+ghost use Rattle.board_model.proofs.ShieldBeneath.{shield_standing};
 
 use crate::ranges::Ranges;
 use board::Board;
@@ -38,12 +41,12 @@ impl<B: Board> Shield<B> {
         }
     }
 
-    /// Adds a range; a ninth is refused.
+    /// Adds a range, whose count stops at 1,048,576; a ninth is refused.
     pub fn add(&mut self, range: Range) -> Result<(), Refusal>
         ensures answer { result ≡
             (if nat_lt (length (ranges_of self.old.ranges)) 8 then Ok tt else Err ShieldFull) }
         ensures after { ranges_of self.new.ranges ≡
-            (if nat_lt (length (ranges_of self.old.ranges)) 8 then (ranges_of self.old.ranges ++ range ∷ []) else ranges_of self.old.ranges) }
+            (if nat_lt (length (ranges_of self.old.ranges)) 8 then (ranges_of self.old.ranges ++ stopped range ∷ []) else ranges_of self.old.ranges) }
         ensures below { self.new.below ≡ self.old.below }
     {
         self.ranges.add(range)
@@ -60,57 +63,47 @@ impl<B: Board> Shield<B> {
     }
 }
 
-// Each call says what the board below and the ranges are afterwards (`below`, `ranges`): a contract speaks of one call.
 impl<B: Board> Board for Shield<B> {
     ghost image = { shield_image B.image };
+
+    ghost few = { λ s. shield_few (ranges_of s.ranges) (B.image s.below) (B.few s.below) };
 
     ghost Lent = { List Range × B.Lent };
 
     ghost lent = { shield_lent B.lent };
 
-    fn size(&mut self) -> usize
-        ensures answer { result ≡ length (shield_image B.image self.old) }
-        ensures few { result ≤ most }
-        ensures same { shield_image B.image self.new ≡ shield_image B.image self.old }
-        ensures lent { shield_lent B.lent self.new ≡ shield_lent B.lent self.old }
-        ensures below { B.image self.new.below ≡ B.image self.old.below }
-        ensures ranges { self.new.ranges ≡ self.old.ranges }
-    {
+    ghost Beneath = { ShieldBeneath B.Beneath };
+
+    ghost beneath = { shield_beneath B.beneath };
+
+    ghost shows = { shield_shows B.shows };
+
+    ghost shown = { λ s. ap (shielded (ranges_of s.ranges)) (B.shown s.below) };
+
+    ghost put = { shield_put B.put };
+
+    ghost Place = { B.Place };
+
+    ghost byte_at = { shield_byte_at B.byte_at };
+
+    ghost stands = { shield_stands B.stands };
+
+    ghost standing = { shield_standing B.standing };
+
+    fn size(&mut self) -> usize {
         self.below.size()
     }
 
-    fn first_fence(&mut self, start: usize, count: usize) -> Result<Option<usize>, Refusal>
-        ensures answer { result ≡ fence_result (shield_image B.image self.old) start count }
-        ensures same { shield_image B.image self.new ≡ shield_image B.image self.old }
-        ensures lent { shield_lent B.lent self.new ≡ shield_lent B.lent self.old }
-        ensures below { B.image self.new.below ≡ B.image self.old.below }
-        ensures ranges { self.new.ranges ≡ self.old.ranges }
-    {
+    fn first_fence(&mut self, start: usize, count: usize) -> Result<Option<usize>, Refusal> {
         let below = self.below.first_fence(start, count)?;
         Ok(earlier(self.ranges.first_in(Range { start, count }), below))
     }
 
-    fn read(&mut self, start: usize, buffer: &mut [u8]) -> Result<(), Refusal>
-        ensures answer { result ≡
-            read_result (shield_image B.image self.old) start (length buffer.old) }
-        ensures filled { buffer.new ≡ read_into (shield_image B.image self.old) start buffer.old }
-        ensures same { shield_image B.image self.new ≡ shield_image B.image self.old }
-        ensures lent { shield_lent B.lent self.new ≡ shield_lent B.lent self.old }
-        ensures below { B.image self.new.below ≡ B.image self.old.below }
-        ensures ranges { self.new.ranges ≡ self.old.ranges }
-    {
+    fn read(&mut self, start: usize, buffer: &mut [u8]) -> Result<(), Refusal> {
         self.below.read(start, buffer)
     }
 
-    fn write(&mut self, start: usize, bytes: &[u8]) -> Result<(), Refusal>
-        ensures answer { result ≡ write_result (shield_image B.image self.old) start bytes.now }
-        ensures after { shield_image B.image self.new ≡
-            written (shield_image B.image self.old) start bytes.now }
-        ensures lent { shield_lent B.lent self.new ≡ shield_lent B.lent self.old }
-        ensures below { B.image self.new.below ≡
-            written_below (ranges_of self.old.ranges) (B.image self.old.below) start bytes.now }
-        ensures ranges { self.new.ranges ≡ self.old.ranges }
-    {
+    fn write(&mut self, start: usize, bytes: &[u8]) -> Result<(), Refusal> {
         if self.first_fence(start, bytes.len())?.is_some() {
             return Err(Refusal::Fenced);
         }

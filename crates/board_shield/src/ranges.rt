@@ -36,6 +36,7 @@ fn widen_range(range: &mut Range, by: usize)
 impl Ranges {
     ghost use Rattle.std.specs.Prelude.{◌++◌, if◌then◌else◌, Ok, Err, nat_lt};
     ghost use Rattle.datasheet.specs.declared.refusal.Refusal.TheVariants.{OutOfRange, ShieldFull};
+    ghost use Rattle.board_model.specs.Layers.{stopped};
     ghost use Rattle.board_shield.specs.Shields.{widened_at, first_covered};
     ghost use Rattle.board_shield.specs.Tables.{ranges_of};
 
@@ -49,18 +50,22 @@ impl Ranges {
         }
     }
 
-    /// Adds a range behind the others; a ninth is refused by `ShieldFull`, and changes nothing.
+    /// Adds a range behind the others, with a count of 1,048,576 at the most; a ninth is refused by `ShieldFull`, and changes
+    /// nothing.
     pub fn add(&mut self, range: Range) -> Result<(), Refusal>
         ensures answer { result ≡
             (if nat_lt (length (ranges_of self.old)) 8 then Ok tt else Err ShieldFull) }
         ensures after { ranges_of self.new ≡
-            (if nat_lt (length (ranges_of self.old)) 8 then (ranges_of self.old ++ range ∷ []) else ranges_of self.old) }
+            (if nat_lt (length (ranges_of self.old)) 8 then (ranges_of self.old ++ stopped range ∷ []) else ranges_of self.old) }
     {
         // Tested first, for `get_mut` says nothing of the array after its borrow, and the proof needs the other ranges unchanged.
         if self.used >= self.ranges.len() {
             return Err(Refusal::ShieldFull);
         }
-        self.ranges[self.used] = range;
+        self.ranges[self.used] = Range {
+            start: range.start,
+            count: range.count.min(MOST),
+        };
         self.used += 1;
         Ok(())
     }

@@ -1,12 +1,16 @@
 //! A window: a part of a board, as a board.
 //!
-//! What it promises: that of a board, for the cells that exist from the offset on; and what the board below is at exit.
+//! What it promises: that of a board, for the cells that exist from the offset on.
 #![tactic(auto)]
 
-ghost use Rattle.std.specs.Prelude.{◌≡◌, ℕ, ◌+◌, ◌≤◌, length, IfOk};
+ghost use Rattle.std.specs.Prelude.{◌≡◌, ℕ, ◌+◌, ◌≤◌, IfOk};
+ghost use Rattle.std.proofs.Common.{ap};
 ghost use Rattle.board_model.specs.Images.{most};
-ghost use Rattle.board_model.specs.Results.{fence_result, read_result, read_into, write_result, written};
-ghost use Rattle.board_window.specs.Windows.{base_result, window_image, window_lent, written_below};
+ghost use Rattle.board_model.specs.Layers.{windowed, base_result};
+ghost use Rattle.board_window.specs.Windows.{window_image, window_lent, window_beneath};
+ghost use Rattle.board_model.specs.WindowBeneath.{WindowBeneath, window_shows, window_put, window_byte_at, window_stands};
+ghost use Rattle.board_model.proofs.Windows.{window_few};
+ghost use Rattle.board_model.proofs.WindowBeneath.{window_standing};
 
 use board::{Board, check_range};
 use datasheet::Refusal;
@@ -40,6 +44,7 @@ impl<B: Board> Window<B> {
             base_result self.old.offset self.old.count (B.image self.old.below) start count }
         ensures few { IfOk result (λ base. base + start + count ≤ most) }
         ensures below { B.image self.new.below ≡ B.image self.old.below }
+        ensures beneath { B.beneath self.new.below ≡ B.beneath self.old.below }
         ensures lent { B.lent self.new.below ≡ B.lent self.old.below }
         ensures offset { self.new.offset ≡ self.old.offset }
         ensures count { self.new.count ≡ self.old.count }
@@ -51,56 +56,50 @@ impl<B: Board> Window<B> {
     }
 }
 
-// Each call says what the board below is afterwards (`below`): a contract speaks of one call.
 impl<B: Board> Board for Window<B> {
     ghost image = { window_image B.image };
+
+    ghost few = { λ s. window_few s.offset s.count (B.image s.below) (B.few s.below) };
 
     ghost Lent = { ℕ × ℕ × B.Lent };
 
     ghost lent = { window_lent B.lent };
 
-    fn size(&mut self) -> usize
-        ensures answer { result ≡ length (window_image B.image self.old) }
-        ensures few { result ≤ most }
-        ensures same { window_image B.image self.new ≡ window_image B.image self.old }
-        ensures lent { window_lent B.lent self.new ≡ window_lent B.lent self.old }
-        ensures below { B.image self.new.below ≡ B.image self.old.below }
-    {
+    ghost Beneath = { WindowBeneath B.Beneath };
+
+    ghost beneath = { window_beneath B.beneath };
+
+    ghost shows = { window_shows B.shows };
+
+    ghost shown = { λ s. ap (windowed s.offset s.count) (B.shown s.below) };
+
+    ghost put = { window_put B.shows B.put };
+
+    ghost Place = { B.Place };
+
+    ghost byte_at = { window_byte_at B.byte_at };
+
+    ghost stands = { window_stands B.shows B.stands };
+
+    ghost standing = { window_standing B.standing };
+
+    fn size(&mut self) -> usize {
         let total = self.below.size();
         self.count.min(total.saturating_sub(self.offset))
     }
 
-    fn first_fence(&mut self, start: usize, count: usize) -> Result<Option<usize>, Refusal>
-        ensures answer { result ≡ fence_result (window_image B.image self.old) start count }
-        ensures same { window_image B.image self.new ≡ window_image B.image self.old }
-        ensures lent { window_lent B.lent self.new ≡ window_lent B.lent self.old }
-        ensures below { B.image self.new.below ≡ B.image self.old.below }
-    {
+    fn first_fence(&mut self, start: usize, count: usize) -> Result<Option<usize>, Refusal> {
         let base = self.base(start, count)?;
         let found = self.below.first_fence(base + start, count)?;
         Ok(found.map(|place| place - base))
     }
 
-    fn read(&mut self, start: usize, buffer: &mut [u8]) -> Result<(), Refusal>
-        ensures answer { result ≡
-            read_result (window_image B.image self.old) start (length buffer.old) }
-        ensures filled { buffer.new ≡ read_into (window_image B.image self.old) start buffer.old }
-        ensures same { window_image B.image self.new ≡ window_image B.image self.old }
-        ensures lent { window_lent B.lent self.new ≡ window_lent B.lent self.old }
-        ensures below { B.image self.new.below ≡ B.image self.old.below }
-    {
+    fn read(&mut self, start: usize, buffer: &mut [u8]) -> Result<(), Refusal> {
         let base = self.base(start, buffer.len())?;
         self.below.read(base + start, buffer)
     }
 
-    fn write(&mut self, start: usize, bytes: &[u8]) -> Result<(), Refusal>
-        ensures answer { result ≡ write_result (window_image B.image self.old) start bytes.now }
-        ensures after { window_image B.image self.new ≡
-            written (window_image B.image self.old) start bytes.now }
-        ensures lent { window_lent B.lent self.new ≡ window_lent B.lent self.old }
-        ensures below { B.image self.new.below ≡
-            written_below self.old.offset self.old.count (B.image self.old.below) start bytes.now }
-    {
+    fn write(&mut self, start: usize, bytes: &[u8]) -> Result<(), Refusal> {
         let base = self.base(start, bytes.len())?;
         self.below.write(base + start, bytes)
     }

@@ -3,11 +3,11 @@ use Rattle.std.proofs.Common.{◌≡◌, Bool, Decides, length, sym, ap, true-eq
 use Rattle.std.proofs.lemmas.Bool.Decides.{Decides-like}
 use Rattle.datasheet.specs.Sheets.{cells}
 use Rattle.datasheet.specs.Alike.{Alike}
-use Rattle.datasheet.specs.Calls.{answers}
+use Rattle.datasheet.specs.Calls.{Sendable, answers}
 use Rattle.datasheet.specs.Chips.{whole}
 use Rattle.datasheet.specs.Kept.{bounded}
 use Rattle.chip_laws.specs.Laws.{Fitted, StaysFitted, ToldApart}
-use Rattle.chip_laws.proofs.Apart.{told_apart, told_apart_whole}
+use Rattle.chip_laws.proofs.Apart.{fitted_apart, told_apart, told_apart_whole}
 use Rattle.chip_laws.proofs.Stays.{stays_fitted, stays_fitted_whole}
 use Rattle.chip.specs.declared.chip.Chip.{Chip}
 use Rattle.chip.specs.Views.{chip_of, record_of, pins_of, Resting}
@@ -26,9 +26,9 @@ fitted c h =
 
 -- two resting chips of one sheet: whether their records are equal is whether no list of calls tells them apart
 pub told : (a b : Chip) (r : Bool) → Decides r (record_of a ≡ record_of b) →
-    Resting a → Resting b → a.sheet ≡ b.sheet → Decides r (Alike (answers bounded) (answers bounded) (chip_of a) (chip_of b))
+    Resting a → Resting b → a.sheet ≡ b.sheet → Decides r (Alike Sendable (answers bounded) (answers bounded) (chip_of a) (chip_of b))
 told a b r d ha hb e =
-    let t = told_apart (chip_of a) (chip_of b) (fitted a ha) (fitted b hb) (ap pins_of ha.1) (ap pins_of hb.1) e in
+    let t = fitted_apart (chip_of a) (chip_of b) (fitted a ha) (fitted b hb) (ap pins_of ha.1) (ap pins_of hb.1) e in
     Decides-like r t.0 t.1 d
 
 -- the law of chips, by the rules and as the code keeps a session

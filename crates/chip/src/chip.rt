@@ -72,7 +72,7 @@ impl Chip<'_> {
     ghost use Rattle.std.specs.Prelude.{◌≡◌, Decides};
     ghost use Rattle.datasheet.specs.Sheets.{fits};
     ghost use Rattle.datasheet.specs.Alike.{Alike};
-    ghost use Rattle.datasheet.specs.Calls.{answers, cycled};
+    ghost use Rattle.datasheet.specs.Calls.{Sendable, answers, cycled};
     ghost use Rattle.datasheet.specs.Chips.{whole};
     ghost use Rattle.datasheet.specs.Kept.{bounded};
     ghost use Rattle.chip_laws.specs.Laws.{ToldApart};
@@ -113,12 +113,12 @@ impl Chip<'_> {
     }
 
     /// Whether two chips have equal records. If both rest, deselected and fitted, and are chips of one sheet, this is whether
-    /// no list of samples and power cycles tells them apart.
+    /// no list of samples and power cycles that can be sent tells them apart.
     #[tactic(auto, using(crate::proofs::Laws::apart))]
     pub fn same_record(&self, other: &Chip<'_>) -> bool
         ensures exact { Decides result (record_of self.now ≡ record_of other.now) }
         ensures untold { Resting self.now → Resting other.now → self.now.sheet ≡ other.now.sheet →
-            Decides result (Alike (answers bounded) (answers bounded) (chip_of self.now) (chip_of other.now)) }
+            Decides result (Alike Sendable (answers bounded) (answers bounded) (chip_of self.now) (chip_of other.now)) }
         ensures law { (ToldApart whole) × (ToldApart bounded) }
     {
         *self.memory == *other.memory && self.status == other.status

@@ -1,8 +1,9 @@
--- Two deselected fitted chips of one sheet have equal records exactly when no list of calls tells them apart.
-use Rattle.std.proofs.Common.{◌≡◌, ℕ, ◌+◌, ◌-◌, ◌%◌, ◌^◌, ◌<◌, ◌≤◌, Bool, true, false, cond, eqb, List, [], ◌∷◌, ◌++◌, length, get_or, take, drop, sym, refl, ap, ◌∙◌, subst, lt_trans, add-zero, mod-eq_of_lt, arith, Option}
+-- Two deselected fitted chips of one sheet have equal records exactly when no list of calls that can be sent tells them apart.
+use Rattle.std.proofs.Common.{◌≡◌, ℕ, ◌+◌, ◌-◌, ◌%◌, ◌^◌, ◌<◌, ◌≤◌, ◌↔◌, Bool, true, false, cond, eqb, List, [], ◌∷◌, ◌++◌, length, get_or, All, take, drop, sym, refl, ap, ◌∙◌, subst, lt_trans, add-zero, mod-eq_of_lt, arith, Option}
 use native.Mathlib.Nat.{mod-mod}
 use Rattle.std.proofs.lemmas.Nat.{pow_below}
 use Rattle.std.proofs.lemmas.List.{ext_get_or, length_push}
+use Rattle.std.proofs.lemmas.List.Elements.{All-nil, All-cons}
 use Rattle.datasheet.specs.declared.sheet.Sheet.{Sheet}
 use Rattle.datasheet.specs.declared.command.Command.{Command}
 use Rattle.datasheet.specs.declared.level.Level.{Level}
@@ -16,14 +17,15 @@ use Rattle.datasheet.specs.Rises.{effect, after_rise}
 use Rattle.datasheet.specs.Falls.{after_fall}
 use Rattle.datasheet.specs.Alike.{Alike}
 use Rattle.datasheet.specs.Chips.{Keeping, deselected, selected, whole}
-use Rattle.datasheet.specs.Calls.{ChipState, ChipCall, ChipCall.sample, ChipAnswer, shows, answers}
+use Rattle.datasheet.specs.Calls.{ChipState, ChipCall, ChipCall.sample, Sendable, ChipAnswer, shows, answers}
+use Rattle.datasheet.specs.Pasts.{chip_now}
 use Rattle.datasheet.specs.Mode0.{clocks, session, bit_read, read_at_rises}
 use Rattle.datasheet.specs.Kept.{bounded}
-use Rattle.chip_laws.specs.Laws.{ToldApart}
+use Rattle.chip_laws.specs.Laws.{Fitted, StaysFitted, ToldApart}
 use Rattle.chip_laws.proofs.Bits.{number_bits_of}
 use Rattle.chip_laws.proofs.Simulation.{command_kept}
 use Rattle.chip_laws.proofs.Follow.{enough}
-use Rattle.chip_laws.proofs.Stays.{Good, good}
+use Rattle.chip_laws.proofs.Stays.{Good, good, past_fitted, stays_fitted_whole, stays_fitted}
 
 -- ## Sessions that change nothing
 
@@ -143,26 +145,46 @@ module _ (s : Sheet) (r : Record) (f : Good s r) where
       sees 24 (get_or r.memory i 0) (read i) (quiet s (waking r) 3 (bits_of 16 i ++ bits_of 8 0) (λ wp q n a x. refl))
       (reading_cell s (waking r) i ∙ ap (λ (j : ℕ). bits_of 8 (get_or r.memory j 0)) (place_is i l)) (f.bytes i)
 
+-- ## These lists can be sent
+
+can_sample : (byte : ℕ) (xs : List ChipCall) → byte < 256 → All Sendable xs → All Sendable (sample byte ∷ xs)
+can_sample byte xs = All-cons Sendable (sample byte) xs
+
+can_clock : (bs : List Bool) → All Sendable (clocks bs)
+can_clock [] = can_sample 0x19 [] (omega arith) (All-nil Sendable)
+can_clock (true ∷ bs) = can_sample 0x1E (sample 0x1C ∷ clocks bs) (omega arith) (can_sample 0x1C (clocks bs) (omega arith) (can_clock bs))
+can_clock (false ∷ bs) = can_sample 0x1A (sample 0x18 ∷ clocks bs) (omega arith) (can_sample 0x18 (clocks bs) (omega arith) (can_clock bs))
+
+can_send : (bs : List Bool) → All Sendable (session bs)
+can_send bs = can_sample 0x18 (clocks bs) (omega arith) (can_clock bs)
+
+can_wake : (xs : List ChipCall) → All Sendable xs → All Sendable (wake xs)
+can_wake xs h = can_sample 0x18 (sample 0x19 ∷ xs) (omega arith) (can_sample 0x19 xs (omega arith) h)
+
 -- ## The law
 
-module _ (s : Sheet) (r q : Record) (f : Good s r) (g : Good s q) (h : Alike (answers whole) (answers whole) (resting s r) (resting s q)) where
-  awake_alike : Alike (answers whole) (answers whole) (resting s (waking r)) (resting s (waking q))
-  awake_alike xs = sym (woken s r f xs) ∙ ap (drop 2) (h (wake xs)) ∙ woken s q g xs
+-- nothing that can be sent tells these chips of one sheet apart, by the rules over the full list of bits
+abbrev Untold : Sheet → Record → Record → Type 0
+Untold s r q = Alike Sendable (answers whole) (answers whole) (resting s r) (resting s q)
+
+module _ (s : Sheet) (r q : Record) (f : Good s r) (g : Good s q) (h : Untold s r q) where
+  awake_alike : Untold s (waking r) (waking q)
+  awake_alike xs can = sym (woken s r f xs) ∙ ap (drop 2) (h (wake xs) (can_wake xs can)) ∙ woken s q g xs
 
   same_asleep : r.asleep ≡ q.asleep
   same_asleep =
       sym (asleep_seen s r f r.asleep)
-      ∙ ap (λ (xs : List ChipAnswer). eqb (seen 8 xs) 255) (h (session rdsr))
+      ∙ ap (λ (xs : List ChipAnswer). eqb (seen 8 xs) 255) (h (session rdsr) (can_send rdsr))
       ∙ asleep_seen s q g q.asleep
 
   same_status : status r ≡ status q
-  same_status = sym (status_seen s r f) ∙ ap (seen 8) (awake_alike (session rdsr)) ∙ status_seen s q g
+  same_status = sym (status_seen s r f) ∙ ap (seen 8) (awake_alike (session rdsr) (can_send rdsr)) ∙ status_seen s q g
 
   same_memory : r.memory ≡ q.memory
   same_memory =
       ext_get_or 0 r.memory q.memory (f.size ∙ sym g.size)
       (λ i l. let k : i < cells s = rw f.size at l in
-      sym (cell_seen s r f i k) ∙ ap (seen 24) (awake_alike (session (read i))) ∙ cell_seen s q g i k)
+      sym (cell_seen s r f i k) ∙ ap (seen 24) (awake_alike (session (read i)) (can_send (read i))) ∙ cell_seen s q g i k)
 
   same : r ≡ q
   same =
@@ -171,26 +193,48 @@ module _ (s : Sheet) (r q : Record) (f : Good s r) (g : Good s q) (h : Alike (an
       let c = same_memory in
       grind arith
 
+-- the law, of fitted chips of one sheet
+abbrev pub FittedToldApart : Keeping → Type 0
+FittedToldApart K =
+    (c d : ChipState K.Kept) → Fitted c → Fitted d → c.pins ≡ deselected → d.pins ≡ deselected → c.sheet ≡ d.sheet →
+    (c.rec ≡ d.rec) ↔ Alike Sendable (answers K) (answers K) c d
+
 -- from chips at rest to any two deselected chips of one sheet
 module _ (K : Keeping)
-    (told : (s : Sheet) (r q : Record) → Good s r → Good s q → Alike (answers K) (answers K) (resting s r) (resting s q) → r ≡ q) where
+    (told : (s : Sheet) (r q : Record) → Good s r → Good s q →
+    Alike Sendable (answers K) (answers K) (resting s r) (resting s q) → r ≡ q) where
   at_rest : (s : Sheet) (c : ChipState K.Kept) → c.sheet ≡ s → c.fitted ≡ true → c.pins ≡ deselected →
       c ≡ resting s c.rec
   at_rest s c e f p i = record { sheet = e i; fitted = f i; rec = c.rec; pins = p i }
 
-  apart : ToldApart K
+  apart : FittedToldApart K
   apart c d f g p o e =
       let s = c.sheet in
       let x = at_rest s c refl f.fit p in
       let y = at_rest s d (sym e) g.fit o in (
-        λ h calls. ap (λ (z : ChipState K.Kept). answers K z calls) (x ∙ ap (resting s) h ∙ sym y),
+        λ h calls can. ap (λ (z : ChipState K.Kept). answers K z calls) (x ∙ ap (resting s) h ∙ sym y),
         λ h. told s c.rec d.rec (good c f) (rw e (good d g)) (rw (x, y) at h),
       )
 
+fitted_apart_whole : FittedToldApart whole
+fitted_apart_whole = apart whole same
+
+pub fitted_apart : FittedToldApart bounded
+fitted_apart =
+    apart bounded
+    (λ s r q f g h. same s r q f g (λ calls can.
+    sym (enough (resting s r) calls).0 ∙ h calls can ∙ (enough (resting s q) calls).0))
+
+-- and so of chips of one sheet with any past
+module _ (K : Keeping) (stays : StaysFitted K) (told : FittedToldApart K) where
+  past_apart : ToldApart K
+  past_apart s a b p q =
+      let f = past_fitted K stays s a in
+      let g = past_fitted K stays s b in
+      told (chip_now K a) (chip_now K b) f.0 g.0 p q (f.1 ∙ sym g.1)
+
 pub told_apart_whole : ToldApart whole
-told_apart_whole = apart whole same
+told_apart_whole = past_apart whole stays_fitted_whole fitted_apart_whole
 
 pub told_apart : ToldApart bounded
-told_apart =
-    apart bounded
-    (λ s r q f g h. same s r q f g (λ calls. sym (enough (resting s r) calls).0 ∙ h calls ∙ (enough (resting s q) calls).0))
+told_apart = past_apart bounded stays_fitted fitted_apart

@@ -1,10 +1,12 @@
--- A fitted chip stays fitted, and a chip of the same sheet.
-use Rattle.std.proofs.Common.{◌≡◌, ℕ, ◌-◌, ◌<◌, Bool, true, false, List, [], ◌∷◌, ◌++◌, length, get_or, set, refl, ◌∙◌, arith, Option}
+-- A fitted chip stays fitted, and a chip of the same sheet; so what is powered over a memory that fits it is fitted, whatever is
+-- sent to it.
+use Rattle.std.proofs.Common.{◌≡◌, ℕ, ◌-◌, ◌<◌, Bool, true, false, List, [], ◌∷◌, ◌++◌, length, get_or, set, sym, refl, ◌∙◌, arith, true-eqb, Option}
 use Rattle.std.proofs.lemmas.List.{length-set, get_or-set_same, get_or-set_other, get_or_past}
 use Rattle.datasheet.specs.declared.sheet.Sheet.{Sheet}
 use Rattle.datasheet.specs.declared.command.Command.{Command}
 use Rattle.datasheet.specs.declared.sample.Sample.{Sample}
-use Rattle.datasheet.specs.Records.{Record}
+use Rattle.datasheet.specs.Sheets.{cells}
+use Rattle.datasheet.specs.Records.{Record, stored_bits}
 use Rattle.datasheet.specs.Sessions.{command, cell_at}
 use Rattle.datasheet.specs.Bits.{byte_after}
 use Rattle.datasheet.specs.Commands.{command_at}
@@ -12,7 +14,8 @@ use Rattle.datasheet.specs.Rises.{effect}
 use Rattle.datasheet.specs.Ends.{ended}
 use Rattle.datasheet.specs.Samples.{levels}
 use Rattle.datasheet.specs.Chips.{Keeping, PinState, deselected, selected, whole, judged}
-use Rattle.datasheet.specs.Calls.{ChipState, ChipCall, ChipCall.sample, cycle, after}
+use Rattle.datasheet.specs.Calls.{ChipState, ChipCall, ChipCall.sample, cycle, powered, after}
+use Rattle.datasheet.specs.Pasts.{Past, chip_now}
 use Rattle.datasheet.specs.Kept.{bounded, taken}
 use Rattle.datasheet.proofs.Machines.{keeps}
 use Rattle.chip_laws.specs.Laws.{Fitted, StaysFitted}
@@ -77,3 +80,21 @@ stays_fitted =
     (λ s wp r k b. let t = taken s k b in
     effect_good s (command_at s t.count t.code) wp r t.count k.place t.shift (omega arith))
     (λ s r k. ended_good s (command_at s k.count k.code) r k.count)
+
+-- ## A chip with a past
+
+-- a chip powered over a memory that fits it is fitted
+powered_fitted : {S : Type 0} (s : Sheet) (a : Past s) → Fitted {S = S} (powered s a.memory (stored_bits a.status))
+powered_fitted s a =
+    record {
+      fit = a.memory_fits;
+      size = true-eqb (length a.memory) (cells s) (sym a.memory_fits);
+      bytes = λ i. let h = a.memory_is i 0 in grind (arith, get_or_past);
+      stored-byte = omega (arith, a.status_is);
+      stored-high = omega arith;
+      still = λ e. refl;
+    }
+
+-- and stays so, whatever was sent to it
+pub past_fitted : (K : Keeping) → StaysFitted K → (s : Sheet) (a : Past s) → Fitted (chip_now K a) × ((chip_now K a).sheet ≡ s)
+past_fitted K stays s a = stays (powered s a.memory (stored_bits a.status)) a.sent (powered_fitted s a)

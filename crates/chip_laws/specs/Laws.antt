@@ -1,9 +1,11 @@
 -- The laws of the chip, over whole runs.
 use Rattle.std.specs.Prelude.{◌≡◌, ℕ, ◌%◌, ◌<◌, Bool, true, false, ◌↔◌, List, length, slice_index}
+use Rattle.datasheet.specs.declared.sheet.Sheet.{Sheet}
 use Rattle.datasheet.specs.Sheets.{cells}
 use Rattle.datasheet.specs.Alike.{Alike}
 use Rattle.datasheet.specs.Chips.{Keeping, deselected, whole}
-use Rattle.datasheet.specs.Calls.{ChipState, ChipCall, answers, run}
+use Rattle.datasheet.specs.Calls.{ChipState, ChipCall, Sendable, answers, run}
+use Rattle.datasheet.specs.Pasts.{Past, chip_now}
 use Rattle.datasheet.specs.Kept.{kept_chip, bounded}
 
 -- What a bounded chip keeps of a session is enough: from any state, every list of calls gets the same answers
@@ -32,10 +34,12 @@ StaysFitted K =
     (c : ChipState K.Kept) (calls : List ChipCall) → Fitted c →
     Fitted (run K c calls) × ((run K c calls).sheet ≡ c.sheet)
 
--- Any two deselected fitted chips of one sheet have equal records exactly when no list of samples and power
--- cycles tells them apart; a refusal is an answer.
+-- Any two fitted chips of one sheet that are deselected now, whatever was sent to them before, have equal records
+-- exactly when no list of samples and power cycles tells them apart; a refusal is an answer.
 abbrev pub ToldApart : Keeping → Type 0
 ToldApart K =
-    (c d : ChipState K.Kept) → Fitted c → Fitted d →
-    c.pins ≡ deselected → d.pins ≡ deselected → c.sheet ≡ d.sheet →
-    (c.rec ≡ d.rec) ↔ Alike (answers K) (answers K) c d
+    (s : Sheet) (a b : Past s) →
+    let c : ChipState K.Kept = chip_now K a in
+    let d : ChipState K.Kept = chip_now K b in
+    c.pins ≡ deselected → d.pins ≡ deselected →
+    (c.rec ≡ d.rec) ↔ Alike Sendable (answers K) (answers K) c d

@@ -3,42 +3,17 @@
 //! the place of the kind byte in two bytes.
 #![tactic(auto)]
 
-ghost use Rattle.std.specs.Prelude.{◌≡◌};
-ghost use Rattle.chip_script.specs.Faults.{fault_bytes};
-
-use chip::ParkedChip;
-use datasheet::{Part, Refusal, Sheet};
-use script::{Counts, chip_visit};
+use script_reports::{ANSWER_BYTES, SCRIPT_BYTES, Target, output};
 use std::io;
 use std::io::{Read, Write};
 
-/// The bytes of a script that are taken.
-const MOST: usize = 4096;
-
-/// The cells of an MB85RS64VY.
-const CELLS: usize = 8192;
-
-/// What is written of a script with a fault.
-fn fault_bytes(refusal: Refusal) -> [u8; 4]
-    ensures { result ≡ fault_bytes refusal }
-{
-    let place = refusal.place().unwrap_or(0);
-    let [.., high, low] = place.to_be_bytes();
-    [0x7E, u8::from(refusal), high, low]
-}
-
 fn main(rt: HostRuntime) -> io::Result<()> {
-    let mut script = Vec::new(rt.alloc());
+    let mut input = Vec::new(rt.alloc());
     // `usize` to `u64` has no `From`
-    rt.stdin().take(MOST as u64).read_to_end(&mut script)?;
-    // nine bytes for each step, and a step has one byte at least
-    let mut answers = [0u8; 9 * MOST];
-    let mut memory = [0u8; CELLS];
-    let parked = ParkedChip::new(Sheet::of(Part::Mb85rs64vy, 0x00, 0x02), 0);
-    let (result, parked) = chip_visit(parked, &mut memory, &script, &mut answers);
-    let _ = parked.into_parts();
-    match result {
-        Ok(Counts { bytes, .. }) => rt.stdout().write_all(&answers[..bytes]),
-        Err(refusal) => rt.stdout().write_all(&fault_bytes(refusal)),
-    }
+    rt.stdin()
+        .take(SCRIPT_BYTES as u64)
+        .read_to_end(&mut input)?;
+    let mut bytes = [0; ANSWER_BYTES];
+    let length = output(Target::Pins, &input, &mut bytes);
+    rt.stdout().write_all(&bytes[..length])
 }

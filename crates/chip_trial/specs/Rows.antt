@@ -1,6 +1,6 @@
 -- What a row of the trial table says: of a chip by the rules over the full list of bits, of a window by its
 -- image.
-use Rattle.std.specs.Prelude.{◌≡◌, ℕ, Bool, true, ◌&&◌, List, map, length, take, replicate, ◌==◌, slice_set}
+use Rattle.std.specs.Prelude.{ℕ, Bool, ◌&&◌, List, map, length, take, replicate, ◌==◌, slice_set}
 use Rattle.std.proofs.Common.{lit≤}
 use Rattle.std.specs.Str.{bytes_eq}
 use Rattle.datasheet.specs.declared.part.Part.{Part}
@@ -14,12 +14,9 @@ use Rattle.datasheet.specs.Chips.{whole}
 use Rattle.datasheet.specs.Calls.{ChipState, powered, run, answers}
 use Rattle.datasheet.specs.Mode0.{bits_of_bytes, session, read_at_rises}
 use Rattle.board_model.specs.Layers.{plain, windowed}
-use Rattle.chip_trial.specs.declared.TrialSession.{TrialSession}
 use Rattle.chip_trial.specs.declared.Change.{Change}
-use Rattle.chip_trial.specs.declared.PinCase.{PinCase}
 use Rattle.chip_trial.specs.declared.WindowCase.{WindowCase}
-use Rattle.chip_trial.specs.declared.Case.{Case}
-use Rattle.chip_trial.specs.declared.Case.TheVariants.{Pins, Window}
+use Rattle.chip_trial.specs.Cases.{Sent, PinRow, Row, pins, window}
 
 -- the sheets of the parts, the upper bits of t 0; f is 09h for MB85RS256B, by its sheet, else 02h
 abbrev pub sheet_of : Part → Sheet
@@ -53,15 +50,15 @@ abbrev pub zeros : Part → List ℕ
 zeros part = replicate (cells (sheet_of part)) 0
 
 -- the bits of a session
-abbrev pub bits_sent : TrialSession → List Bool
-bits_sent s = take s.bits (bits_of_bytes s.bytes.now)
+abbrev pub bits_sent : Sent → List Bool
+bits_sent s = take s.bits (bits_of_bytes s.bytes)
 
 -- the chip after a session
-abbrev pub sent_to : ChipState (List Bool) → TrialSession → ChipState (List Bool)
+abbrev pub sent_to : ChipState (List Bool) → Sent → ChipState (List Bool)
 sent_to c s = run whole c (session (bits_sent s))
 
 -- the chip after these sessions
-abbrev pub all_sent_to : ChipState (List Bool) → List TrialSession → ChipState (List Bool)
+abbrev pub all_sent_to : ChipState (List Bool) → List Sent → ChipState (List Bool)
 all_sent_to = left_by sent_to
 
 -- a memory after these changes
@@ -69,31 +66,28 @@ abbrev pub changed_by : List ℕ → List Change → List ℕ
 changed_by = left_by (λ memory x. slice_set memory x.cell x.byte)
 
 -- the chip of a row before its last session
-abbrev pub ready : PinCase → ChipState (List Bool)
-ready r = all_sent_to (powered (sheet_of r.part) (zeros r.part) r.stored) r.before.now
+abbrev pub ready : PinRow → ChipState (List Bool)
+ready r = all_sent_to (powered (sheet_of r.part) (zeros r.part) r.stored) r.before
 
 -- the bits that are read in the last session
-abbrev pub bits_read : PinCase → List Bool
+abbrev pub bits_read : PinRow → List Bool
 bits_read r = read_at_rises (answers whole (ready r) (session (bits_sent r.last)))
 
 -- the memory after the last session
-abbrev pub memory_left : PinCase → List ℕ
+abbrev pub memory_left : PinRow → List ℕ
 memory_left r = (sent_to (ready r) r.last).rec.memory
 
 -- the bits that are read are those of the bytes that must be seen, and the memory has the changes of the row
 -- and no other; two bits are compared as numbers
-abbrev pub right_pins : PinCase → Bool
+abbrev pub right_pins : PinRow → Bool
 right_pins r =
-    bytes_eq (map bit (bits_read r)) (map bit (take r.last.bits (bits_of_bytes r.seen.now)))
-    && bytes_eq (memory_left r) (changed_by (zeros r.part) r.changed.now)
+    bytes_eq (map bit (bits_read r)) (map bit (take r.last.bits (bits_of_bytes r.seen)))
+    && bytes_eq (memory_left r) (changed_by (zeros r.part) r.changed)
 
 -- the window of a row, over so many cells of plain memory, has the size of the row
 abbrev pub right_window : WindowCase → Bool
 right_window r = length (windowed r.offset r.count (plain (replicate r.cells 0))) == r.size
 
-abbrev pub right : Case → Bool
-right (Pins r) = right_pins r
-right (Window r) = right_window r
-
-abbrev pub Right : Case → Type 0
-Right r = right r ≡ true
+abbrev pub right : Row → Bool
+right (pins r) = right_pins r
+right (window r) = right_window r

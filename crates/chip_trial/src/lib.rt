@@ -1,11 +1,14 @@
 //! The trial cases: what a chip must show after what is sent to it.
 //!
-//! What it promises: the definitions give what each row of the table says, computed by the checker; a test runs the same rows
-//! through the chip.
+//! What it promises: the table is the one of the definitions, and by the definitions each of its rows is right, computed by the
+//! checker; a test runs the same rows through the chip.
 #![tactic(auto)]
 
-ghost use Rattle.std.specs.Prelude.{◌≤◌, MatchOption};
-ghost use Rattle.chip_trial.specs.Rows.{Right};
+ghost use Rattle.std.specs.Prelude.{◌≡◌, length, slice_get};
+ghost use Rattle.std.specs.Option.{option_map};
+ghost use Rattle.chip_trial.specs.Cases.{row_of};
+ghost use Rattle.chip_trial.specs.Table.{table};
+ghost use Rattle.chip_trial.specs.Laws.{TableRight};
 
 pub use datasheet::Part;
 
@@ -233,9 +236,18 @@ pub enum Case {
     Window(WindowCase),
 }
 
-/// A row of the table: by the definitions its chip shows and keeps, or its window has, what the row says.
+/// How many rows the table has. By the definitions the chip of each row shows and keeps, or its window has, what the row says.
+#[tactic(auto, using(crate::proofs::Table::table_right))]
+pub fn case_count() -> usize
+    ensures count { result ≡ length table }
+    ensures law { TableRight }
+{
+    11
+}
+
+/// Row `i` of the table, from 0; none behind the last.
 pub fn case_at(i: usize) -> Option<Case>
-    ensures { MatchOption result (11 ≤ i) Right }
+    ensures { option_map row_of result ≡ slice_get table i }
 {
     // not a table read by `get`: its goal is one over all rows at once, which the check does not compute
     match i {
@@ -267,8 +279,6 @@ mod tests {
     use std::alloc::Global;
     use std::process::Abort;
     use std::test::Fail;
-
-    const ROWS: usize = 11;
 
     /// Clocks the first `bits` bits of a byte, and answers what is read at the rises, high-Z as ones. The demo has its like, which
     /// goes on after a refused sample, where a test fails.
@@ -348,14 +358,14 @@ mod tests {
 
     #[test]
     fn chip_and_windows_do_what_the_table_says(rt: HostRuntime) -> Result<(), Fail> {
-        for i in 0..ROWS {
+        for i in 0..case_count() {
             let case = case_at(i).ok_or("a row is missing")?;
             match case {
                 Case::Pins(pins) => run_pins(&rt, &pins)?,
                 Case::Window(window) => run_window(&rt, &window)?,
             }
         }
-        assert!(rt; case_at(ROWS).is_none());
+        assert!(rt; case_at(case_count()).is_none());
         Ok(())
     }
 

@@ -1,6 +1,6 @@
 -- What holds of every list of calls, from what holds of one call. What is said before a call may speak of the calls that are
 -- to come: of it and of those behind it.
-use Rattle.std.proofs.Common.{◌≡◌, List, [], ◌∷◌, map, refl, ap, ◌∙◌, ap₂}
+use Rattle.std.proofs.Common.{◌≡◌, List, [], ◌∷◌, ◌++◌, map, refl, ap, ◌∙◌, ap₂}
 use Rattle.std.proofs.lemmas.List.{map-id}
 use Rattle.datasheet.specs.Machines.{left_by, answered_by}
 
@@ -52,3 +52,14 @@ module _ {X C A : Type 0} (after : X → C → X) (answer : C → A) where
   pub alone : (x : X) (cs : List C) → answered_by after (λ x c. answer c) x cs ≡ map answer cs
   alone x [] = refl
   alone x (c ∷ cs) = ap (λ (as' : List A). answer c ∷ as') (alone (after x c) cs)
+
+-- A list of calls and another behind it.
+module _ {X C : Type 0} (after : X → C → X) where
+  pub left_behind : (x : X) (cs ds : List C) → left_by after x (cs ++ ds) ≡ left_by after (left_by after x cs) ds
+  left_behind x [] ds = refl
+  left_behind x (c ∷ cs) ds = left_behind (after x c) cs ds
+
+  pub answered_behind : {A : Type 0} (answer : X → C → A) (x : X) (cs ds : List C) →
+      answered_by after answer x (cs ++ ds) ≡ answered_by after answer x cs ++ answered_by after answer (left_by after x cs) ds
+  answered_behind answer x [] ds = refl
+  answered_behind answer x (c ∷ cs) ds = ap (λ (as' : List _). answer x c ∷ as') (answered_behind answer (after x c) cs ds)

@@ -5,6 +5,7 @@ use Rattle.datasheet.specs.declared.level.Level.{Level}
 use Rattle.datasheet.specs.declared.level.Level.TheVariants.{HighZ}
 use Rattle.datasheet.specs.declared.sample.Sample.{Sample}
 use Rattle.datasheet.specs.declared.refusal.Refusal.{Refusal}
+use Rattle.datasheet.specs.Numbers.{Byte}
 use Rattle.datasheet.specs.Refusals.{refusal_number}
 use Rattle.datasheet.specs.Sheets.{fits}
 use Rattle.datasheet.specs.Records.{Record}
@@ -43,6 +44,11 @@ so c = if c.fitted then output c.pins else HighZ
 pub data ChipCall : Type 0 where
   sample : ℕ → ChipCall
   cycle : ChipCall
+
+-- what can be sent: a sample is a byte
+abbrev pub Sendable : ChipCall → Type 0
+Sendable (sample byte) = Byte byte
+Sendable cycle = Unit {0}
 
 -- the answers: SO, done, or a refusal's number
 pub data ChipAnswer : Type 0 where

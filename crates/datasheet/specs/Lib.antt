@@ -1,3 +1,4 @@
+pub mod Numbers
 pub mod Bits
 pub mod Machines
 pub mod Alike
@@ -16,5 +17,6 @@ pub mod Ends
 pub mod Samples
 pub mod Chips
 pub mod Calls
+pub mod Pasts
 pub mod Kept
 pub mod Mode0

@@ -1,37 +1,16 @@
 -- A sealed image has the size and the bytes of the one below; each of its places is fenced.
-use Rattle.std.proofs.Common.{◌≡◌, ℕ, zero, suc, ◌+◌, ◌<◌, ◌≤◌, true, false, eqb, true-eqb, List, [], ◌∷◌, length, take, drop, Some, Ok, Err, Result, refl, sym, ap, ◌∙◌, arith}
+use Rattle.std.proofs.Common.{◌≡◌, ℕ, ◌<◌, true, false, eqb, true-eqb, List, [], ◌∷◌, length, Some, Ok, Err, Result, refl, sym, ap, ◌∙◌, arith}
 use Rattle.std.proofs.lemmas.List.{drop-map, take-map, length-map}
 use Rattle.datasheet.specs.declared.refusal.Refusal.{Refusal}
 use Rattle.datasheet.specs.declared.refusal.Refusal.TheVariants.{Fenced}
-use Rattle.board_model.specs.declared.Cell.{Cell}
-use Rattle.board_model.specs.Images.{Image, inside, bytes_of, first_fenced, fence_in, overwritten}
+use Rattle.board_model.specs.Images.{Image, inside, overwritten}
 use Rattle.board_model.specs.Results.{range_result, fence_result, read_into, write_result, if_accepted, written}
 use Rattle.board_model.proofs.Cells.{range_inside, range_fits}
 use Rattle.extend.specs.Seals.{all_fenced}
-
-same_bytes : (cs : List Cell) → bytes_of (all_fenced cs) ≡ bytes_of cs
-same_bytes [] = refl
-same_bytes (c ∷ cs) = ap (λ t. c.byte ∷ t) (same_bytes cs)
+use Rattle.extend.specs.SealedFacts.{same_bytes, fence_first, nothing_put}
 
 pub same_read : (i : Image) (s : ℕ) (buffer : List ℕ) → read_into (all_fenced i) s buffer ≡ read_into i s buffer
 same_read i s buffer = simp (length-map, drop-map, take-map, same_bytes) refl
-
--- the first place of a range that has one
-fenced_at : (at s k : ℕ) (i : Image) → s < length i → first_fenced at (take (suc k) (drop s (all_fenced i))) ≡ Some at
-fenced_at at s k [] h = absurd (omega arith)
-fenced_at at zero k (c ∷ i) h = refl
-fenced_at at (suc s) k (c ∷ i) h = fenced_at at s k i (omega arith)
-
-pub fence_first : (i : Image) (s n : ℕ) → 0 < n → s + n ≤ length i → fence_in (all_fenced i) s n ≡ Some s
-fence_first i s zero h k = absurd (omega arith)
-fence_first i s (suc n) h k = fenced_at s s n i (omega arith)
-
--- no bytes put
-nothing_put : (s : ℕ) (i : Image) → overwritten i s [] ≡ i
-nothing_put zero [] = refl
-nothing_put zero (c ∷ i) = refl
-nothing_put (suc s) [] = refl
-nothing_put (suc s) (c ∷ i) = ap (λ t. c ∷ t) (nothing_put s i)
 
 either_way : (r : Result (Unit {0}) Refusal) (i : Image) → if_accepted r i i ≡ i
 either_way (Ok u) i = refl

@@ -1,2 +1,3 @@
 pub mod Readings
 pub mod Seals
+pub mod SealedFacts

@@ -16,3 +16,9 @@ sealed_image image s = all_fenced (image s.below)
 
 abbrev pub sealed_lent : {B L : Type 0} → (B → L) → Sealed B → L
 sealed_lent lent s = lent s.below
+
+abbrev pub sealed_beneath : {B G : Type 0} → (B → G) → Sealed B → G
+sealed_beneath beneath s = beneath s.below
+
+abbrev pub sealed_shows : {G : Type 0} → (G → Image) → G → Image
+sealed_shows shows g = all_fenced (shows g)

@@ -1,6 +1,7 @@
 // A bus over any bus.
 ghost use Rattle.std.specs.Prelude.{◌≡◌, ◌+◌, ◌-◌, ◌^◌, min};
 ghost use Rattle.datasheet.specs.Kept.{bounded};
+ghost use Rattle.spi_model.specs.declared.bus_call.BusCall.TheVariants.{Select, Exchange, Deselect};
 ghost use Rattle.spi_model.specs.Buses.{selected, exchanged, read, deselected};
 
 use spi_bus::SpiBus;
@@ -37,12 +38,19 @@ impl<B: SpiBus> SpiBus for Counted<B> {
 
     ghost aligned = { λ s. B.aligned s.bus };
 
+    ghost Trace = { B.Trace };
+
+    ghost trace = { λ s. B.trace s.bus };
+
+    ghost traced = { B.traced };
+
     ghost Lent = { B.Lent };
 
     ghost lent = { λ s. B.lent s.bus };
 
     fn select(&mut self)
         ensures after { B.meaning self.new.bus ≡ selected bounded (B.meaning self.old.bus) }
+        ensures traced { B.trace self.new.bus ≡ B.traced (B.trace self.old.bus) Select }
         ensures sent { self.new.sent ≡ self.old.sent }
         ensures lent { B.lent self.new.bus ≡ B.lent self.old.bus }
     {
@@ -52,6 +60,7 @@ impl<B: SpiBus> SpiBus for Counted<B> {
     fn exchange(&mut self, byte: u8) -> u8
         ensures read { result ≡ read bounded (B.meaning self.old.bus) byte }
         ensures after { B.meaning self.new.bus ≡ exchanged bounded (B.meaning self.old.bus) byte }
+        ensures traced { B.trace self.new.bus ≡ B.traced (B.trace self.old.bus) (Exchange byte) }
         ensures sent { self.new.sent ≡ min (self.old.sent + 1) (2 ^ 64 - 1) }
         ensures lent { B.lent self.new.bus ≡ B.lent self.old.bus }
     {
@@ -61,6 +70,7 @@ impl<B: SpiBus> SpiBus for Counted<B> {
 
     fn deselect(&mut self)
         ensures after { B.meaning self.new.bus ≡ deselected bounded (B.meaning self.old.bus) }
+        ensures traced { B.trace self.new.bus ≡ B.traced (B.trace self.old.bus) Deselect }
         ensures sent { self.new.sent ≡ self.old.sent }
         ensures lent { B.lent self.new.bus ≡ B.lent self.old.bus }
     {

@@ -46,6 +46,7 @@ impl From<ReadingRefusal> for u8 {
 pub fn reading_at<B: Board>(board: &mut B, place: usize) -> Result<u8, ReadingRefusal>
     ensures answer { result ≡ reading_result (B.image board.old) place }
     ensures same { B.image board.new ≡ B.image board.old }
+    ensures beneath { B.beneath board.new ≡ B.beneath board.old }
     ensures lent { B.lent board.new ≡ B.lent board.old }
 {
     let mut bytes = [0; 1];

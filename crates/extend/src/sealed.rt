@@ -1,8 +1,8 @@
 // A layer over any board.
-ghost use Rattle.std.specs.Prelude.{◌≡◌, ◌≤◌, length};
-ghost use Rattle.board_model.specs.Images.{most};
-ghost use Rattle.board_model.specs.Results.{fence_result, read_result, read_into, write_result, written};
-ghost use Rattle.extend.specs.Seals.{sealed_image, sealed_lent};
+ghost use Rattle.std.specs.Prelude.{◌≡◌};
+ghost use Rattle.std.proofs.Common.{ap};
+ghost use Rattle.extend.specs.Seals.{all_fenced, sealed_image, sealed_lent, sealed_beneath, sealed_shows};
+ghost use Rattle.extend.specs.SealedFacts.{sealed_few, sealed_standing};
 
 use board::{Board, check_range};
 use datasheet::Refusal;
@@ -22,52 +22,48 @@ impl<B: Board> Sealed<B> {
     }
 }
 
-// Each call says what the board below is afterwards (`below`): a contract speaks of one call.
 impl<B: Board> Board for Sealed<B> {
     ghost image = { sealed_image B.image };
+
+    ghost few = { λ s. sealed_few (B.image s.below) (B.few s.below) };
 
     ghost Lent = { B.Lent };
 
     ghost lent = { sealed_lent B.lent };
 
-    fn size(&mut self) -> usize
-        ensures answer { result ≡ length (sealed_image B.image self.old) }
-        ensures few { result ≤ most }
-        ensures same { sealed_image B.image self.new ≡ sealed_image B.image self.old }
-        ensures lent { sealed_lent B.lent self.new ≡ sealed_lent B.lent self.old }
-        ensures below { B.image self.new.below ≡ B.image self.old.below }
-    {
+    // What stands below its board: no write that it accepts has a byte.
+    ghost Beneath = { B.Beneath };
+
+    ghost beneath = { sealed_beneath B.beneath };
+
+    ghost shows = { sealed_shows B.shows };
+
+    ghost shown = { λ s. ap all_fenced (B.shown s.below) };
+
+    ghost put = { λ g _ _. g };
+
+    ghost Place = { B.Place };
+
+    ghost byte_at = { B.byte_at };
+
+    ghost stands = { B.stands };
+
+    ghost standing = { sealed_standing B.standing };
+
+    fn size(&mut self) -> usize {
         self.below.size()
     }
 
-    fn first_fence(&mut self, start: usize, count: usize) -> Result<Option<usize>, Refusal>
-        ensures answer { result ≡ fence_result (sealed_image B.image self.old) start count }
-        ensures same { sealed_image B.image self.new ≡ sealed_image B.image self.old }
-        ensures lent { sealed_lent B.lent self.new ≡ sealed_lent B.lent self.old }
-        ensures below { B.image self.new.below ≡ B.image self.old.below }
-    {
+    fn first_fence(&mut self, start: usize, count: usize) -> Result<Option<usize>, Refusal> {
         check_range(start, count, self.below.size())?;
         if count > 0 { Ok(Some(start)) } else { Ok(None) }
     }
 
-    fn read(&mut self, start: usize, buffer: &mut [u8]) -> Result<(), Refusal>
-        ensures answer { result ≡
-            read_result (sealed_image B.image self.old) start (length buffer.old) }
-        ensures filled { buffer.new ≡ read_into (sealed_image B.image self.old) start buffer.old }
-        ensures same { sealed_image B.image self.new ≡ sealed_image B.image self.old }
-        ensures lent { sealed_lent B.lent self.new ≡ sealed_lent B.lent self.old }
-        ensures below { B.image self.new.below ≡ B.image self.old.below }
-    {
+    fn read(&mut self, start: usize, buffer: &mut [u8]) -> Result<(), Refusal> {
         self.below.read(start, buffer)
     }
 
-    fn write(&mut self, start: usize, bytes: &[u8]) -> Result<(), Refusal>
-        ensures answer { result ≡ write_result (sealed_image B.image self.old) start bytes.now }
-        ensures after { sealed_image B.image self.new ≡
-            written (sealed_image B.image self.old) start bytes.now }
-        ensures lent { sealed_lent B.lent self.new ≡ sealed_lent B.lent self.old }
-        ensures below { B.image self.new.below ≡ B.image self.old.below }
-    {
+    fn write(&mut self, start: usize, bytes: &[u8]) -> Result<(), Refusal> {
         check_range(start, bytes.len(), self.below.size())?;
         if bytes.is_empty() {
             Ok(())

@@ -5,14 +5,14 @@ use Rattle.datasheet.specs.declared.refusal.Refusal.{Refusal}
 use Rattle.datasheet.specs.declared.refusal.Refusal.TheVariants.{OutOfRange, ShortBuffer}
 use Rattle.board_model.specs.declared.Cell.{Cell}
 use Rattle.board_model.specs.Images.{Image, inside, part, first_fenced, fence_in, overlaid, overwritten}
-use Rattle.board_model.specs.Results.{unless_fenced, if_accepted, write_result, written}
-use Rattle.board_model.specs.Calls.{BoardCall, size, fence, read, write, after, run}
+use Rattle.board_model.specs.Results.{unless_fenced, if_accepted, write_result}
+use Rattle.board_model.specs.Calls.{BoardCall, size, fence, read, write, BoardAnswer, cells, place as told-place, bytes as told-bytes, done, refused, answer_of, answer, after, run}
 use Rattle.datasheet.proofs.Machines.{keeps}
 use Rattle.script.specs.Steps.{board_kinds}
 use Rattle.script.specs.Reading.{Reading, reads, stops, read_script}
 use Rattle.script.specs.Machines.{replies, board_machine}
 use Rattle.script.specs.Runs.{outcome_of, playing, refusing}
-use Rattle.script.specs.Kept.{FencedKept, KeepsFenced, Names, NamedBy, KeepsUnnamed}
+use Rattle.script.specs.Kept.{FencedKept, KeepsFenced, NamedBy, unless_refused, accepted, KeepsUnnamed}
 
 kept_same : (i : Image) → FencedKept i i
 kept_same [] = tt
@@ -89,24 +89,30 @@ unnamed_overwritten (suc start) (c ∷ i) bytes zero h = refl
 unnamed_overwritten (suc start) (c ∷ i) bytes (suc place) h =
     unnamed_overwritten start i bytes place (λ k. h (omega (arith, k.0), omega (arith, k.1)))
 
-unnamed_written : (i : Image) (start : ℕ) (bytes : List ℕ) (place : ℕ) → ((start ≤ place) × (place < start + length bytes) → ⊥) →
-    part (written i start bytes) place 1 ≡ part i place 1
-unnamed_written i start bytes place h = go (write_result i start bytes)
+-- what the calls behind name is named with the first call too
+pub more_named : (a : BoardAnswer) (c : BoardCall) (rest : List BoardCall) (place : ℕ) → NamedBy rest place → NamedBy (unless_refused a c rest) place
+more_named (cells n) c rest place h = inr h
+more_named (told-place p) c rest place h = inr h
+more_named (told-bytes bs) c rest place h = inr h
+more_named done c rest place h = inr h
+more_named (refused n) c rest place h = h
+
+unnamed_after : (i : Image) (c : BoardCall) (rest : List BoardCall) (at : ℕ) → (NamedBy (unless_refused (answer i c) c rest) at → ⊥) → part (after i c) at 1 ≡ part i at 1
+unnamed_after i size rest at h = refl
+unnamed_after i (fence start count) rest at h = refl
+unnamed_after i (read start count) rest at h = refl
+unnamed_after i (write start bs) rest at h = go (write_result i start bs) h
   where
-    go : (r : Result (Unit {0}) Refusal) → part (if_accepted r (overwritten i start bytes) i) place 1 ≡ part i place 1
-    go (Ok u) = unnamed_overwritten start i bytes place h
-    go (Err e) = refl
+    go : (r : Result (Unit {0}) Refusal) → (NamedBy (unless_refused (answer_of (λ _. done) r) (write start bs) rest) at → ⊥) →
+        part (if_accepted r (overwritten i start bs) i) at 1 ≡ part i at 1
+    go (Ok u) out = unnamed_overwritten start i bs at (λ k. out (inl k))
+    go (Err e) out = refl
 
-unnamed_after : (i : Image) (c : BoardCall) (place : ℕ) → (Names c place → ⊥) → part (after i c) place 1 ≡ part i place 1
-unnamed_after i size place h = refl
-unnamed_after i (fence start count) place h = refl
-unnamed_after i (read start count) place h = refl
-unnamed_after i (write start bytes) place h = unnamed_written i start bytes place h
-
-unnamed_run : (i : Image) (calls : List BoardCall) (place : ℕ) → (NamedBy calls place → ⊥) → part (run i calls) place 1 ≡ part i place 1
-unnamed_run i calls place h =
-    (keeps after (λ j rest. (NamedBy rest place → ⊥) × (part j place 1 ≡ part i place 1))
-    (λ j c rest g. ((λ n. g.0 (inr n)), unnamed_after j c place (λ n. g.0 (inl n)) ∙ g.1)) i calls (h, refl)).1
+unnamed_run : (i : Image) (calls : List BoardCall) (at : ℕ) → (NamedBy (accepted i calls) at → ⊥) → part (run i calls) at 1 ≡ part i at 1
+unnamed_run i [] at h = refl
+unnamed_run i (c ∷ calls) at h =
+    unnamed_run (after i c) calls at (λ n. h (more_named (answer i c) c (accepted (after i c) calls) at n))
+    ∙ unnamed_after i c (accepted (after i c) calls) at h
 
 pub keeps_unnamed : KeepsUnnamed
 keeps_unnamed i script buffer calls place is h =

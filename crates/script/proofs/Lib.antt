@@ -4,3 +4,4 @@ pub mod Exact
 pub mod Fences
 pub mod Going
 pub mod Whole
+pub mod Below

@@ -5,7 +5,7 @@ use Rattle.datasheet.specs.Machines.{answered_by}
 use Rattle.datasheet.specs.Chips.{Keeping}
 use Rattle.datasheet.specs.Calls.{ChipState, ChipCall, ChipAnswer, after, answer}
 use Rattle.board_model.specs.Images.{Image}
-use Rattle.board_model.specs.Calls.{BoardCall, BoardAnswer, after as board_after, answer as board_answer}
+use Rattle.board_model.specs.Calls.{BoardCall, BoardAnswer, after as board_after, answer as board_answer, after_below, answer_below}
 use Rattle.script.specs.Replies.{answer_bytes, board_answer_bytes}
 
 -- what a call leaves, what it is answered, and the bytes of an answer
@@ -30,3 +30,8 @@ chip_machine K = record { after = after K; answer = answer K; bytes = answer_byt
 -- a board, by its image
 abbrev pub board_machine : Machine Image BoardCall BoardAnswer
 board_machine = record { after = board_after; answer = board_answer; bytes = board_answer_bytes }
+
+-- a board, by what stands below it
+abbrev pub machine_below : {G : Type 0} → (G → Image) → (G → ℕ → List ℕ → G) → Machine G BoardCall BoardAnswer
+machine_below shows put =
+    record { after = after_below shows put; answer = answer_below shows put; bytes = board_answer_bytes }

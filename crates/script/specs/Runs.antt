@@ -9,7 +9,7 @@ use Rattle.board_model.specs.Images.{Image}
 use Rattle.script.specs.declared.run.Counts.{Counts}
 use Rattle.script.specs.Steps.{Kinds, chip_kinds, board_kinds}
 use Rattle.script.specs.Reading.{Reading, reads, stops, read_script}
-use Rattle.script.specs.Machines.{Machine, replies, chip_machine, board_machine}
+use Rattle.script.specs.Machines.{Machine, replies, chip_machine, board_machine, machine_below}
 
 -- what a run answers, what it leaves of what it was carried out on, and of the answer buffer
 pub record Outcome (X : Type 0) : Type 0 where
@@ -58,3 +58,7 @@ outcome K = outcome_by chip_kinds (chip_machine K)
 -- the board run
 abbrev pub board_outcome : Image → List ℕ → List ℕ → Outcome Image
 board_outcome = outcome_by board_kinds board_machine
+
+-- the same, by what stands below the board
+abbrev pub outcome_below : {G : Type 0} → (G → Image) → (G → ℕ → List ℕ → G) → G → List ℕ → List ℕ → Outcome G
+outcome_below shows put = outcome_by board_kinds (machine_below shows put)

@@ -16,4 +16,4 @@ board_call_of Size = size
 board_call_of (Fence start) = fence start 8
 board_call_of (ReadEight start) = read start 8
 board_call_of (WriteEight start bytes) = write start bytes.now
-board_call_of (WriteOne start byte) = write start (byte ∷ [])
+board_call_of (WriteOne start byte) = write start (byte.now ∷ [])

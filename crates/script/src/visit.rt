@@ -8,7 +8,7 @@ use datasheet::Refusal;
 
 /// Powers a parked chip over lent memory, runs a script on it, and takes power away again. All of it is what the rules over
 /// the full list of bits say.
-#[tactic(auto, using(crate::proofs::Whole::from_power))]
+#[tactic(auto, using(crate::proofs::Whole::from_power, crate::proofs::Whole::one_sheet))]
 pub fn chip_visit(
     parked: ParkedChip,
     memory: &mut [u8],
@@ -20,7 +20,7 @@ pub fn chip_visit(
     ensures buffer { buffer.new ≡ (visit_outcome parked memory.old script.now buffer.old).buffer }
     ensures memory { memory.new ≡ (visit_outcome parked memory.old script.now buffer.old).left.rec.memory }
     ensures stored { result.1.stored.bits ≡ (visit_outcome parked memory.old script.now buffer.old).left.rec.stored }
-    ensures sheet { result.1.sheet ≡ (visit_outcome parked memory.old script.now buffer.old).left.sheet }
+    ensures sheet { result.1.sheet ≡ parked.sheet }
 {
     let mut chip = parked.power(memory);
     let result = chip_run(&mut chip, script, buffer);

@@ -15,12 +15,12 @@ use Rattle.datasheet.specs.Kept.{bounded}
 use Rattle.datasheet.proofs.Machines.{keeps}
 use Rattle.spi_model.specs.Meanings.{made}
 use Rattle.board_model.specs.declared.Cell.{Cell}
-use Rattle.board_model.specs.Images.{Image, bytes_of, free, overwritten}
+use Rattle.board_model.specs.Images.{Image, bytes_of, free, overwritten, fenced}
 use Rattle.board_model.specs.Results.{if_accepted, write_result, written}
 use Rattle.board_model.specs.Calls.{BoardCall, size, fence, read, write, after, run}
 use Rattle.board_model.proofs.Cells.{length_overwritten}
 use Rattle.spi_bus.specs.Behind.{behind_chip}
-use Rattle.spi_driver.specs.Drives.{chip_image, image_of, fenced}
+use Rattle.spi_driver.specs.Drives.{chip_image, image_of}
 use Rattle.spi_driver.proofs.Cells.{image_length}
 use Rattle.script.specs.Steps.{board_kinds}
 use Rattle.script.specs.Reading.{Reading, reads, stops, read_script}

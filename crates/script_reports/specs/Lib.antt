@@ -2,3 +2,4 @@ pub mod Marks
 pub mod Reports
 pub mod Shown
 pub mod Visits
+pub mod Programs

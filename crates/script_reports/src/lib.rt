@@ -16,12 +16,13 @@ ghost use Rattle.script_reports.specs.Shown.{shown_of};
 ghost use Rattle.script_reports.specs.Visits.{Visits, Parks, on_chip, on_board};
 
 mod boards;
+mod programs;
 
-use boards::BoardRun;
+use boards::run_stepped;
 use chip::ParkedChip;
 use datasheet::{Marks, Refusal, Sheet};
+pub use programs::{ANSWER_BYTES, SCRIPT_BYTES, Target, output};
 use script::{Counts, chip_visit};
-use spi_bus::{Way, work_over};
 
 /// What a run answers besides the bytes in the answer buffer. Its layout is that of `fram_report` in C.
 #[repr(C)]
@@ -140,12 +141,7 @@ fn board_visit(
     ensures stored { result.1.stored.bits ≡ parked.stored.bits }
 {
     let mut chip = parked.power(memory);
-    let result = work_over(
-        &mut chip,
-        Way::Stepped { wp: true },
-        BoardRun { script },
-        answers,
-    );
+    let result = run_stepped(&mut chip, script, answers);
     (result, chip.power_off())
 }
 

@@ -31,8 +31,8 @@ pub same : (Same whole) × (Same bounded) × BothBuses
 same = (same-lines whole follows_whole, same-lines bounded follows_bounded, both_buses)
 
 -- the samples of a whole session
-pub sessions : (SessionSamples whole) × (SessionSamples bounded)
-sessions = (session_samples whole, session_samples bounded)
+pub sessions : SessionSamples
+sessions = session_samples
 
 -- samples put by their bytes
 pub as_calls : (AsCalls whole) × (AsCalls bounded)

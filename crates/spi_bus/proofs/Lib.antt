@@ -3,3 +3,4 @@ pub mod Laws
 pub mod Meant
 pub mod Listed
 pub mod ByRules
+pub mod Traces

@@ -18,12 +18,16 @@ module _ {M X : Type 0} (after : M → X → M) (answer : M → X → X) (run : 
         ap (λ (y : M). run y (drop (i + 1) xs)) then
         ∙ sym (goes.runs b (get_or xs i x) (drop (i + 1) xs)) ∙ sym (at_drop_more (run b) xs i x l) ∙ h
 
+    -- put in its place or not, it is behind
+    pub one_past : (a : X) (end : M) → run b (drop i xs) ≡ end → run d (drop (i + 1) (set xs i a)) ≡ end
+    one_past a end h = ap (run d) (drop-set-lt (i + 1) xs i a (omega arith)) ∙ one_on end h
+
     module _ (a : X) (is : a ≡ answer b (get_or xs i x)) where
       left : drop (i + 1) (set xs i a) ≡ drop (i + 1) xs
       left = drop-set-lt (i + 1) xs i a (omega arith)
 
       pub one_more : (end : M) → run b (drop i xs) ≡ end → run d (drop (i + 1) (set xs i a)) ≡ end
-      one_more end h = ap (run d) left ∙ one_on end h
+      one_more = one_past a
 
       pub one_answered : (all : List X) → take i xs ++ answers b (drop i xs) ≡ all →
           take (i + 1) (set xs i a) ++ answers d (drop (i + 1) (set xs i a)) ≡ all

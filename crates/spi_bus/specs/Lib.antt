@@ -1,3 +1,4 @@
 pub mod Behind
+pub mod Traces
 pub mod Views
 pub mod Ways

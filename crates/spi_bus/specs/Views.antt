@@ -1,15 +1,14 @@
 -- What the buses of the code are and mean, by the chips behind their pins, and what they were given.
-use Rattle.std.specs.Prelude.{ℕ, Bool, List}
+use Rattle.std.specs.Prelude.{ℕ, Bool}
 use Rattle.datasheet.specs.declared.registers.Registers.{Registers}
-use Rattle.datasheet.specs.declared.sample.Sample.{Sample}
 use Rattle.datasheet.specs.Calls.{ChipState}
 use Rattle.datasheet.specs.Kept.{bounded}
-use Rattle.spi_model.specs.declared.bus_call.BusCall.{BusCall}
 use Rattle.spi_model.specs.Buses.{Bus}
-use Rattle.spi_model.specs.Lines.{AtLine, call_samples}
+use Rattle.spi_model.specs.Lines.{AtLine}
 use Rattle.spi_model.specs.Meanings.{meaning_of}
 use Rattle.spi_model.specs.declared.mode.Mode.{Mode}
 use Rattle.spi_model.specs.declared.mode.Mode.TheVariants.{Mode0}
+use Rattle.spi_bus.specs.Traces.{BusTrace}
 use Rattle.spi_bus.specs.declared.stepped.SteppedBus.{SteppedBus}
 use Rattle.spi_bus.specs.declared.line.Line.{Line}
 
@@ -20,9 +19,17 @@ line_of chip l = record { chip = chip l.pins; in_session = l.in_session }
 abbrev pub line_meaning : {P : Type 0} (chip : P → ChipState Registers) {g : _} → Line P g → Bus Registers
 line_meaning chip l = meaning_of bounded l.setting.wp (line_of chip l)
 
--- the samples of a call
-abbrev pub samples_of : {P : Type 0} {g : _} → Line P g → BusCall → List Sample
-samples_of l x = call_samples l.setting.mode l.setting.wp l.setting.waits l.in_session x
+-- what is kept of its calls, by what its pins keep of their samples
+abbrev pub line_trace : {P T : Type 0} (chip : P → ChipState Registers) (trace : P → T) {g : _} →
+    Line P g → BusTrace T
+line_trace chip trace l =
+    record {
+      mode = l.setting.mode;
+      waits = l.setting.waits;
+      wp = l.setting.wp;
+      line = line_of chip l;
+      pins = trace l.pins;
+    }
 
 -- what it was given: mode, held samples and WP, and what its pins were given
 abbrev pub line_lent : {P L : Type 0} (lent : P → L) {g : _} → Line P g → Mode × ℕ × Bool × L
@@ -38,9 +45,17 @@ abbrev pub stepped_meaning : {C : Type 0} (chip : C → ChipState Registers) {g 
     SteppedBus C g → Bus Registers
 stepped_meaning chip b = meaning_of bounded b.wp (stepped_bus_of chip b)
 
--- the samples of a call that a line in mode 0 with no held samples puts; those of a byte are never put
-abbrev pub stepped_samples : {C : Type 0} {g : _} → SteppedBus C g → BusCall → List Sample
-stepped_samples b x = call_samples Mode0 b.wp 0 b.in_session x
+-- what is kept of its calls: it moves the pins as a line in mode 0 with no held samples
+abbrev pub stepped_trace : {C T : Type 0} (chip : C → ChipState Registers) (trace : C → T) {g : _} →
+    SteppedBus C g → BusTrace T
+stepped_trace chip trace b =
+    record {
+      mode = Mode0;
+      waits = 0;
+      wp = b.wp;
+      line = stepped_bus_of chip b;
+      pins = trace b.chip;
+    }
 
 abbrev pub stepped_lent : {C L : Type 0} (lent : C → L) {g : _} → SteppedBus C g → Bool × L
 stepped_lent lent b = (b.wp, lent b.chip)

@@ -9,6 +9,8 @@ ghost use Rattle.datasheet.specs.declared.registers.Registers.{Registers};
 ghost use Rattle.datasheet.specs.Kept.{bounded};
 ghost use Rattle.datasheet.specs.Memory.{SoundMemory};
 ghost use Rattle.spi_model.specs.SteppedBytes.{whole_session};
+ghost use Rattle.spi_model.specs.declared.bus_call.BusCall.{BusCall};
+ghost use Rattle.spi_model.specs.declared.bus_call.BusCall.TheVariants.{Select, Exchange, Deselect};
 ghost use Rattle.spi_model.specs.Buses.{Bus, selected, exchanged, read, deselected};
 ghost use Rattle.std.specs.Borrow.{GName};
 
@@ -39,6 +41,13 @@ pub trait SpiBus {
     // Its session, if one is open, has a whole number of bytes.
     ghost aligned: { (s : Self) → whole_session (meaning s).session ≡ true };
 
+    // What is kept of the calls that were made, whatever that is, and what one more makes of it.
+    ghost Trace: { Type 0 };
+
+    ghost trace: { Self → Trace };
+
+    ghost traced: { Trace → BusCall → Trace };
+
     // The references through which its chip is reached: no call puts another in the place of one.
     ghost Lent: { Type 0 };
 
@@ -47,6 +56,7 @@ pub trait SpiBus {
     /// Begins a session if none is open.
     fn select(&mut self)
         ensures after { meaning self.new ≡ selected bounded (meaning self.old) }
+        ensures traced { trace self.new ≡ traced (trace self.old) Select }
         ensures lent { lent self.new ≡ lent self.old };
 
     /// Sends the eight bits of a byte, the highest first, and answers the byte that is read meanwhile. With no open session it answers
@@ -54,11 +64,13 @@ pub trait SpiBus {
     fn exchange(&mut self, byte: u8) -> u8
         ensures read { result ≡ read bounded (meaning self.old) byte }
         ensures after { meaning self.new ≡ exchanged bounded (meaning self.old) byte }
+        ensures traced { trace self.new ≡ traced (trace self.old) (Exchange byte) }
         ensures lent { lent self.new ≡ lent self.old };
 
     /// Ends the session if there is one.
     fn deselect(&mut self)
         ensures after { meaning self.new ≡ deselected bounded (meaning self.old) }
+        ensures traced { trace self.new ≡ traced (trace self.old) Deselect }
         ensures lent { lent self.new ≡ lent self.old };
 }
 
@@ -69,6 +81,12 @@ impl<B: SpiBus> SpiBus for &mut B {
     ghost sound = { λ s. B.sound s.now };
 
     ghost aligned = { λ s. B.aligned s.now };
+
+    ghost Trace = { B.Trace };
+
+    ghost trace = { λ s. B.trace s.now };
+
+    ghost traced = { B.traced };
 
     ghost Lent = { GName × B.Lent };
 

@@ -2,11 +2,11 @@
 ghost use Rattle.std.specs.Prelude.{◌≡◌, false, true, [], ◌∷◌};
 ghost use Rattle.datasheet.specs.Chips.{whole};
 ghost use Rattle.datasheet.specs.Kept.{bounded};
-ghost use Rattle.spi_model.specs.declared.bus_call.BusCall.TheVariants.{Select, Exchange, Deselect};
+ghost use Rattle.spi_model.specs.declared.bus_call.BusCall.TheVariants.{Exchange};
 ghost use Rattle.spi_model.specs.Puts.{tracing, puts};
 ghost use Rattle.spi_model.specs.Samples.{rises};
 ghost use Rattle.spi_model.specs.SteppedBytes.{whole_bytes};
-ghost use Rattle.spi_model.specs.Buses.{selected, exchanged, read, deselected};
+ghost use Rattle.spi_model.specs.Buses.{exchanged, read};
 ghost use Rattle.spi_model.specs.Meanings.{kept_of, made, AtRest};
 ghost use Rattle.spi_model.proofs.Aligned.{session_whole};
 ghost use Rattle.spi_model.proofs.Rests.{pins_at_prop};
@@ -55,10 +55,12 @@ impl<P: Pins> Line<P> {
     }
 }
 
+// Each call states, by what the line keeps of its calls, the list of its samples, and that its chip is left as by them.
 impl<P: Pins> SpiBus for Line<P> {
     ghost use Rattle.std.specs.Prelude.{ℕ, Bool};
     ghost use Rattle.spi_model.specs.declared.mode.Mode.{Mode};
-    ghost use Rattle.spi_bus.specs.Views.{line_meaning, line_lent, samples_of};
+    ghost use Rattle.spi_bus.specs.Traces.{BusTrace, line_traced};
+    ghost use Rattle.spi_bus.specs.Views.{line_meaning, line_lent, line_trace};
 
     ghost meaning = { λ s. line_meaning P.chip s };
 
@@ -66,19 +68,17 @@ impl<P: Pins> SpiBus for Line<P> {
 
     ghost aligned = { λ s. session_whole s.in_session (kept_of bounded (P.chip s.pins)) s.aligned };
 
+    ghost Trace = { BusTrace P.Trace };
+
+    ghost trace = { λ s. line_trace P.chip P.trace s };
+
+    ghost traced = { line_traced P.traced };
+
     ghost Lent = { Mode × ℕ × Bool × P.Lent };
 
     ghost lent = { λ s. line_lent P.lent s };
 
-    fn select(&mut self)
-        ensures after { line_meaning P.chip self.new ≡
-            selected bounded (line_meaning P.chip self.old) }
-        ensures lent { line_lent P.lent self.new ≡ line_lent P.lent self.old }
-        ensures put { P.chip self.new.pins ≡
-            puts bounded (P.chip self.old.pins) (samples_of self.old Select) }
-        ensures traced { P.trace self.new.pins ≡
-            tracing P.traced (P.trace self.old.pins) (samples_of self.old Select) }
-    {
+    fn select(&mut self) {
         if !self.in_session {
             let Setting { mode, wp, .. } = self.setting;
             let _ = self.pins.put(mode.chip_select(wp, false));
@@ -91,11 +91,9 @@ impl<P: Pins> SpiBus for Line<P> {
         ensures read { result ≡ read bounded (line_meaning P.chip self.old) byte }
         ensures after { line_meaning P.chip self.new ≡
             exchanged bounded (line_meaning P.chip self.old) byte }
+        ensures traced { line_trace P.chip P.trace self.new ≡
+            line_traced P.traced (line_trace P.chip P.trace self.old) (Exchange byte) }
         ensures lent { line_lent P.lent self.new ≡ line_lent P.lent self.old }
-        ensures put { P.chip self.new.pins ≡
-            puts bounded (P.chip self.old.pins) (samples_of self.old (Exchange byte)) }
-        ensures traced { P.trace self.new.pins ≡
-            tracing P.traced (P.trace self.old.pins) (samples_of self.old (Exchange byte)) }
         ensures law { (ByteAtPins whole) × (ByteAtPins bounded) }
         ensures law_of_calls { (Follows whole) × (Follows bounded) }
     {
@@ -106,15 +104,7 @@ impl<P: Pins> SpiBus for Line<P> {
         }
     }
 
-    fn deselect(&mut self)
-        ensures after { line_meaning P.chip self.new ≡
-            deselected bounded (line_meaning P.chip self.old) }
-        ensures lent { line_lent P.lent self.new ≡ line_lent P.lent self.old }
-        ensures put { P.chip self.new.pins ≡
-            puts bounded (P.chip self.old.pins) (samples_of self.old Deselect) }
-        ensures traced { P.trace self.new.pins ≡
-            tracing P.traced (P.trace self.old.pins) (samples_of self.old Deselect) }
-    {
+    fn deselect(&mut self) {
         if self.in_session {
             let Setting { mode, wp, .. } = self.setting;
             let _ = self.pins.put(mode.chip_select(wp, true));

@@ -2,11 +2,11 @@
 ghost use Rattle.std.specs.Prelude.{◌≡◌, false, true, [], ◌∷◌};
 ghost use Rattle.datasheet.specs.Kept.{bounded};
 ghost use Rattle.spi_model.specs.declared.mode.Mode.TheVariants.{Mode0};
-ghost use Rattle.spi_model.specs.declared.bus_call.BusCall.TheVariants.{Select, Exchange, Deselect};
+ghost use Rattle.spi_model.specs.declared.bus_call.BusCall.TheVariants.{Exchange};
 ghost use Rattle.spi_model.specs.Puts.{tracing, puts};
 ghost use Rattle.spi_model.specs.Samples.{rises};
 ghost use Rattle.spi_model.specs.SteppedBytes.{whole_bytes};
-ghost use Rattle.spi_model.specs.Buses.{selected, exchanged, read, deselected};
+ghost use Rattle.spi_model.specs.Buses.{exchanged, read};
 ghost use Rattle.spi_model.specs.Meanings.{kept_of, made, AtRest};
 ghost use Rattle.spi_model.specs.Laws.{ByteAtOnce};
 ghost use Rattle.spi_model.proofs.Aligned.{session_whole};
@@ -50,9 +50,12 @@ impl<C: Stepped> SteppedBus<C> {
     }
 }
 
+// Each call states, by what the bus keeps of its calls, that it leaves the chip as a line in mode 0 would, and puts the samples
+// of CS alone.
 impl<C: Stepped> SpiBus for SteppedBus<C> {
     ghost use Rattle.std.specs.Prelude.{Bool};
-    ghost use Rattle.spi_bus.specs.Views.{stepped_meaning, stepped_lent, stepped_samples};
+    ghost use Rattle.spi_bus.specs.Traces.{BusTrace, stepped_traced};
+    ghost use Rattle.spi_bus.specs.Views.{stepped_meaning, stepped_lent, stepped_trace};
 
     ghost meaning = { λ s. stepped_meaning C.chip s };
 
@@ -60,19 +63,17 @@ impl<C: Stepped> SpiBus for SteppedBus<C> {
 
     ghost aligned = { λ s. session_whole s.in_session (kept_of bounded (C.chip s.chip)) s.aligned };
 
+    ghost Trace = { BusTrace C.Trace };
+
+    ghost trace = { λ s. stepped_trace C.chip C.trace s };
+
+    ghost traced = { stepped_traced C.traced };
+
     ghost Lent = { Bool × C.Lent };
 
     ghost lent = { λ s. stepped_lent C.lent s };
 
-    fn select(&mut self)
-        ensures after { stepped_meaning C.chip self.new ≡
-            selected bounded (stepped_meaning C.chip self.old) }
-        ensures lent { stepped_lent C.lent self.new ≡ stepped_lent C.lent self.old }
-        ensures put { C.chip self.new.chip ≡
-            puts bounded (C.chip self.old.chip) (stepped_samples self.old Select) }
-        ensures traced { C.trace self.new.chip ≡
-            tracing C.traced (C.trace self.old.chip) (stepped_samples self.old Select) }
-    {
+    fn select(&mut self) {
         if !self.in_session {
             let _ = self.chip.put(Mode::Mode0.chip_select(self.wp, false));
             self.in_session = true;
@@ -83,10 +84,9 @@ impl<C: Stepped> SpiBus for SteppedBus<C> {
         ensures read { result ≡ read bounded (stepped_meaning C.chip self.old) byte }
         ensures after { stepped_meaning C.chip self.new ≡
             exchanged bounded (stepped_meaning C.chip self.old) byte }
+        ensures traced { stepped_trace C.chip C.trace self.new ≡
+            stepped_traced C.traced (stepped_trace C.chip C.trace self.old) (Exchange byte) }
         ensures lent { stepped_lent C.lent self.new ≡ stepped_lent C.lent self.old }
-        ensures put { C.chip self.new.chip ≡
-            puts bounded (C.chip self.old.chip) (stepped_samples self.old (Exchange byte)) }
-        ensures unmoved { C.trace self.new.chip ≡ C.trace self.old.chip }
         ensures law { ByteAtOnce }
     {
         if self.in_session {
@@ -96,15 +96,7 @@ impl<C: Stepped> SpiBus for SteppedBus<C> {
         }
     }
 
-    fn deselect(&mut self)
-        ensures after { stepped_meaning C.chip self.new ≡
-            deselected bounded (stepped_meaning C.chip self.old) }
-        ensures lent { stepped_lent C.lent self.new ≡ stepped_lent C.lent self.old }
-        ensures put { C.chip self.new.chip ≡
-            puts bounded (C.chip self.old.chip) (stepped_samples self.old Deselect) }
-        ensures traced { C.trace self.new.chip ≡
-            tracing C.traced (C.trace self.old.chip) (stepped_samples self.old Deselect) }
-    {
+    fn deselect(&mut self) {
         if self.in_session {
             let _ = self.chip.put(Mode::Mode0.chip_select(self.wp, true));
             self.in_session = false;

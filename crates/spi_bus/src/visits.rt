@@ -23,6 +23,8 @@ impl BusWork for AllTurns {
 
     ghost Does = { λ _ b turns _ made left. (made ≡ turns_made bounded b (calls_of turns)) × (left ≡ behind_bus (run bounded b (calls_of turns))) };
 
+    ghost calls = { λ _ _ turns. calls_of turns };
+
     fn carry_out<B: SpiBus>(self, bus: &mut B, turns: &mut [BusTurn]) {
         perform(bus, turns);
     }
@@ -39,7 +41,7 @@ pub fn visit(parked: ParkedChip, memory: &mut [u8], way: Way, turns: &mut [BusTu
     ensures sheet { result.sheet ≡ parked.sheet }
     ensures same { (Same whole) × (Same bounded) × BothBuses }
     ensures lines { (LineIsBus whole) × (LineIsBus bounded) }
-    ensures sessions { (SessionSamples whole) × (SessionSamples bounded) }
+    ensures sessions { SessionSamples }
     ensures as_calls { (AsCalls whole) × (AsCalls bounded) }
 {
     let mut chip = parked.power(memory);

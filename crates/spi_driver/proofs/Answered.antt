@@ -6,25 +6,17 @@ use Rattle.datasheet.specs.declared.registers.Registers.{Registers}
 use Rattle.datasheet.specs.declared.refusal.Refusal.{Refusal}
 use Rattle.datasheet.specs.declared.refusal.Refusal.TheVariants.{Fenced}
 use Rattle.datasheet.specs.Protection.{first_protected}
-use Rattle.spi_model.specs.Buses.{Bus, becoming}
-use Rattle.board_model.specs.Results.{range_result, fence_result, write_result, read_into}
+use Rattle.spi_model.specs.Buses.{Bus}
+use Rattle.board_model.specs.Results.{range_result, fence_result, write_result}
 use Rattle.board_model.proofs.Cells.{range_fits}
-use Rattle.board.specs.Plains.{patched}
-use Rattle.spi_driver.specs.Drives.{image_of, calmed, calm, memory_by, after_write}
-use Rattle.spi_driver.proofs.Cells.{blank_size, fence_accepted, read_accepted, write_accepted}
+use Rattle.board_model.specs.Layers.{patched}
+use Rattle.spi_driver.specs.Drives.{image_of, with_memory, memory_by, after_write}
+use Rattle.spi_driver.proofs.Cells.{blank_size, fence_accepted, write_accepted}
 
 -- a test that decides whether there is a place
 pub is_held : (w : Bool) (p : ℕ) (o : Option ℕ) (t : Bool) → o ≡ cond w (Some p) None → t ≡ is_some o → w ≡ t
 is_held true p o t e h = sym (h ∙ ap is_some e)
 is_held false p o t e h = sym (h ∙ ap is_some e)
-
--- a bus that is calm has its memory
-pub calm_memory : (b : Bus Registers) → (calm b).rec.memory ≡ b.rec.memory
-calm_memory b = go b.fitted
-  where
-    go : (f : Bool) → (cond f (calmed b.rec b.rec.memory) b.rec).memory ≡ b.rec.memory
-    go true = refl
-    go false = refl
 
 module _ (b : Bus Registers) (size free start : ℕ) (sizes : size ≡ length (image_of b))
     (frees : b.fitted ≡ true → free ≡ first_protected b.sheet b.rec) where
@@ -57,12 +49,6 @@ module _ (b : Bus Registers) (size free start : ℕ) (sizes : size ≡ length (i
   fence_answer count lies =
       sym (fence_accepted b size start (sym sizes) count lies ∙ ap (λ (o : Option ℕ). Ok o) (sym (same_place count (range_fits size start count lies))))
 
-  pub filled_by : {u : Unit {0}} (buffer new : List ℕ) (c : Bus Registers) → Ok u ≡ range_result size start (length buffer) → c ≡ calm b →
-      new ≡ take (length buffer) (drop start c.rec.memory) → new ≡ read_into (image_of b) start buffer
-  filled_by buffer new c lies e h =
-      h ∙ ap (λ (m : List ℕ). take (length buffer) (drop start m)) (ap (λ (x : Bus Registers). x.rec.memory) e ∙ calm_memory b)
-      ∙ sym (read_accepted b size start (sym sizes) buffer lies)
-
   module _ {u : Unit {0}} (bytes : List ℕ) (lies : Ok u ≡ range_result size start (length bytes)) where
     result_is : write_result (image_of b) start bytes ≡ cond (holds free (length bytes)) (Err Fenced) (Ok tt)
     result_is =
@@ -71,32 +57,26 @@ module _ (b : Bus Registers) (size free start : ℕ) (sizes : size ≡ length (i
 
     -- how the bus is left after a write with this result
     abbrev left_so : Result (Unit {0}) Refusal → Bus Registers
-    left_so r = becoming b (cond b.fitted (calmed b.rec (memory_by r b.rec.memory start bytes)) b.rec) None
+    left_so r = with_memory b (memory_by r b.rec.memory start bytes)
 
     module _ (w : holds free (length bytes) ≡ true) where
       pub fenced_result : Err Fenced ≡ write_result (image_of b) start bytes
       fenced_result = sym (result_is ∙ ap (λ (t : Bool). cond t (Err Fenced) (Ok tt)) w)
 
-      pub fenced_left : calm b ≡ after_write b start bytes
+      pub fenced_left : b ≡ after_write b start bytes
       fenced_left = ap left_so fenced_result
 
     module _ (w : holds free (length bytes) ≡ false) where
       pub free_result : Ok tt ≡ write_result (image_of b) start bytes
       free_result = sym (result_is ∙ ap (λ (t : Bool). cond t (Err Fenced) (Ok tt)) w)
 
-      -- the bytes were put into the cells of a chip that is calm
-      pub written_left : 0 < length bytes → (c d : Bus Registers) → c ≡ calm b → d ≡ becoming c (calmed c.rec (patched c.rec.memory start bytes)) None → d ≡ after_write b start bytes
-      written_left some c d e h =
-          let there = is_there (length bytes) some (range_fits size start (length bytes) lies) in
-          h ∙ ap (λ (x : Bus Registers). becoming x (calmed x.rec (patched x.rec.memory start bytes)) None) e
-          ∙ ap (λ (f : Bool). becoming b (calmed (cond f (calmed b.rec b.rec.memory) b.rec) (patched (cond f (calmed b.rec b.rec.memory) b.rec).memory start bytes)) None) there
-          ∙ ap (λ (f : Bool). becoming b (cond f (calmed b.rec (patched b.rec.memory start bytes)) b.rec) None) (sym there)
-          ∙ ap left_so free_result
+      -- the bytes were put into the cells
+      pub written_left : (c d : Bus Registers) → c ≡ b → d ≡ with_memory c (patched c.rec.memory start bytes) → d ≡ after_write b start bytes
+      written_left c d e h = h ∙ ap (λ (x : Bus Registers). with_memory x (patched x.rec.memory start bytes)) e ∙ ap left_so free_result
 
       -- there were none
-      pub nothing_left : length bytes ≡ 0 → calm b ≡ after_write b start bytes
-      nothing_left none =
-          ap (λ (m : List ℕ). becoming b (cond b.fitted (calmed b.rec m) b.rec) None) (sym (unpatched bytes none)) ∙ ap left_so free_result
+      pub nothing_left : length bytes ≡ 0 → b ≡ after_write b start bytes
+      nothing_left none = ap (with_memory b) (sym (unpatched bytes none)) ∙ ap left_so free_result
         where
           unpatched : (xs : List ℕ) → length xs ≡ 0 → patched b.rec.memory start xs ≡ b.rec.memory
           unpatched [] e = ap (λ (k : ℕ). take start b.rec.memory ++ drop k b.rec.memory) (omega arith) ∙ take-append-drop start b.rec.memory

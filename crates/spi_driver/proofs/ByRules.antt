@@ -13,7 +13,7 @@ use Rattle.spi_model.specs.Meanings.{made}
 use Rattle.spi_model.specs.Laws.{kept_bus}
 use Rattle.spi_driver.specs.Left.{samples, left_in}
 use Rattle.spi_driver.specs.declared.transfers.TransferOutcome.{TransferOutcome}
-use Rattle.spi_driver.specs.Transfers.{Transferred, transferred_to, transferred, transferred_parked}
+use Rattle.spi_driver.specs.Transfers.{Transferred, transferred_to, transferred, transferred_parked, transfer_calls}
 
 -- a bus made over a chip that keeps what is needed
 made_kept : (wp : Bool) (s : Sheet) (f : Bool) (r : Record) (p : PinState (List Bool)) →
@@ -37,6 +37,12 @@ found_kept s memory stored before wp c e h k =
 pub kept_transferred : (b : Bus (List Bool)) (start : ℕ) (bytes buffer : List ℕ) → transferred (kept_bus b) start bytes buffer ≡ transferred b start bytes buffer
 unfolding transferred_to
 kept_transferred b start bytes buffer = refl
+
+-- nor which calls it makes
+pub kept_calls : (wp : Bool) (c : ChipState (List Bool)) (start : ℕ) (bytes : List ℕ) (count : ℕ) →
+    transfer_calls (made bounded wp (kept_chip c)) start bytes count ≡ transfer_calls (made whole wp c) start bytes count
+unfolding transfer_calls
+kept_calls wp c start bytes count = ap (λ (b : Bus Registers). transfer_calls b start bytes count) (made_kept wp c.sheet c.fitted c.rec c.pins)
 
 -- what is seen of a transfer when the chip is parked behind it
 pub parked_so : {S : Type 0} {outcome : TransferOutcome} {filled memory : List ℕ} {stored : ℕ} {rec : Record} (b : Bus S) (start : ℕ) (bytes buffer : List ℕ) →

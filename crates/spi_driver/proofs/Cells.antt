@@ -1,38 +1,24 @@
 -- The image of a driver: it is as long as the memory, its bytes are those of the memory, and bytes put into the memory are
 -- bytes put into the image.
-use Rattle.std.proofs.Common.{◌≡◌, ℕ, zero, suc, ◌+◌, ◌-◌, ◌≤◌, max, Bool, true, false, cond, ◌&&◌, ltb, leb, List, [], ◌∷◌, ◌++◌, map, length, take, drop, Some, None, Option, Ok, Err, Result, sym, refl, ap, ◌∙◌, inl, inr, suc-add, arith, leb-true}
+use Rattle.std.proofs.Common.{◌≡◌, ℕ, zero, suc, ◌+◌, ◌-◌, ◌≤◌, max, Bool, true, false, cond, ◌&&◌, ltb, leb, List, [], ◌∷◌, length, take, drop, Some, None, Option, Ok, Err, Result, sym, refl, ap, ◌∙◌, inl, inr, arith, leb-true}
 use Rattle.std.specs.Prelude.{nat_lt, nat_le}
 use Rattle.std.proofs.lemmas.List.{drop-map, take-map, length-take, length-drop}
 use Rattle.std.proofs.lemmas.Bool.Decides.{nat_tests, leb_tells}
 use Rattle.board_model.specs.declared.Cell.{Cell}
-use Rattle.board_model.specs.Images.{Image, bytes_of, part, first_fenced, fence_in, overlaid, overwritten, free}
+use Rattle.board_model.specs.Images.{Image, bytes_of, part, first_fenced, fence_in, overwritten, free, fenced}
 use Rattle.board_model.specs.Results.{range_result, fence_result, read_result, read_into, unless_fenced, write_result, if_accepted, written}
 use Rattle.board_model.proofs.Cells.{range_inside, refused_by}
-use Rattle.board.specs.Plains.{patched}
+use Rattle.board_model.specs.Layers.{patched}
+use Rattle.board_model.proofs.Fenced.{fenced_from, cells_length, cells_bytes, cells_none, cells_patched}
 use Rattle.datasheet.specs.declared.refusal.Refusal.{Refusal}
 use Rattle.datasheet.specs.declared.refusal.Refusal.TheVariants.{OutOfRange, Fenced}
 use Rattle.datasheet.specs.declared.sheet.Sheet.{Sheet}
 use Rattle.datasheet.specs.Records.{Record}
 use Rattle.datasheet.specs.Protection.{first_protected}
 use Rattle.spi_model.specs.Buses.{Bus}
-use Rattle.spi_driver.specs.Drives.{fenced, chip_image, image_of, calmed, calm, memory_by, after_write}
+use Rattle.spi_driver.specs.Drives.{chip_image, image_of, calmed, calm, memory_by, after_write}
 
 -- ## The cells of a memory, fenced from a place on
-
-abbrev fenced_from : ℕ → List ℕ → List Cell
-fenced_from k xs = map free (take k xs) ++ map fenced (drop k xs)
-
-cells_length : (k : ℕ) (xs : List ℕ) → length (fenced_from k xs) ≡ length xs
-cells_length zero [] = refl
-cells_length zero (x ∷ xs) = ap suc (cells_length zero xs)
-cells_length (suc k) [] = refl
-cells_length (suc k) (x ∷ xs) = ap suc (cells_length k xs)
-
-cells_bytes : (k : ℕ) (xs : List ℕ) → bytes_of (fenced_from k xs) ≡ xs
-cells_bytes zero [] = refl
-cells_bytes zero (x ∷ xs) = ap (λ t. x ∷ t) (cells_bytes zero xs)
-cells_bytes (suc k) [] = refl
-cells_bytes (suc k) (x ∷ xs) = ap (λ t. x ∷ t) (cells_bytes k xs)
 
 cells_take : (n k : ℕ) (xs : List ℕ) → take n (fenced_from k xs) ≡ fenced_from k (take n xs)
 cells_take zero zero xs = refl
@@ -41,10 +27,6 @@ cells_take (suc n) zero [] = refl
 cells_take (suc n) zero (x ∷ xs) = ap (λ t. fenced x ∷ t) (cells_take n zero xs)
 cells_take (suc n) (suc k) [] = refl
 cells_take (suc n) (suc k) (x ∷ xs) = ap (λ t. free x ∷ t) (cells_take n k xs)
-
-cells_none : (k : ℕ) → fenced_from k [] ≡ []
-cells_none zero = refl
-cells_none (suc k) = refl
 
 cells_drop : (n k : ℕ) (xs : List ℕ) → drop n (fenced_from k xs) ≡ fenced_from (k - n) (drop n xs)
 cells_drop zero k xs = let e : k - 0 ≡ k = omega arith in rw e
@@ -72,23 +54,6 @@ cells_part_fence : (k start count : ℕ) (xs : List ℕ) → start + count ≤ l
 cells_part_fence k start count xs h =
     let e : length (take count (drop start xs)) ≡ count = simp (length-take, length-drop) (omega arith) in
     rw (cells_drop start k xs, cells_take count (k - start) (drop start xs), cells_fence start (k - start) (take count (drop start xs)), e) (fence_place k start count)
-
--- bytes put
-cells_overlaid : (k : ℕ) (xs bs : List ℕ) → length bs ≤ length xs → overlaid (fenced_from k xs) bs ≡ fenced_from k (bs ++ drop (length bs) xs)
-cells_overlaid k [] [] h = rw (cells_none k)
-cells_overlaid k [] (b ∷ bs) h = absurd (omega arith)
-cells_overlaid zero (x ∷ xs) [] h = refl
-cells_overlaid (suc k) (x ∷ xs) [] h = refl
-cells_overlaid zero (x ∷ xs) (b ∷ bs) h = ap (λ t. fenced b ∷ t) (cells_overlaid zero xs bs (omega arith))
-cells_overlaid (suc k) (x ∷ xs) (b ∷ bs) h = ap (λ t. free b ∷ t) (cells_overlaid k xs bs (omega arith))
-
-cells_patched : (k start : ℕ) (xs bs : List ℕ) → start + length bs ≤ length xs → fenced_from k (patched xs start bs) ≡ overwritten (fenced_from k xs) start bs
-cells_patched k zero xs bs h =
-    let e : 0 + length bs ≡ length bs = omega arith in
-    ap (λ (n : ℕ). fenced_from k (bs ++ drop n xs)) e ∙ sym (cells_overlaid k xs bs (omega arith))
-cells_patched k (suc start) [] bs h = absurd (omega arith)
-cells_patched zero (suc start) (x ∷ xs) bs h = rw (suc-add start (length bs)) (ap (λ t. fenced x ∷ t) (cells_patched zero start xs bs (omega arith)))
-cells_patched (suc k) (suc start) (x ∷ xs) bs h = rw (suc-add start (length bs)) (ap (λ t. free x ∷ t) (cells_patched k start xs bs (omega arith)))
 
 -- ## The image of a chip
 
@@ -135,7 +100,7 @@ accepted_fits i start bytes e =
 
 -- a chip after a write that was answered so
 write_chip : (s : Sheet) (r : Record) (start : ℕ) (bytes : List ℕ) (w : Result (Unit {0}) Refusal) → w ≡ write_result (chip_image s r) start bytes →
-    chip_image s (calmed r (memory_by w r.memory start bytes)) ≡ if_accepted w (overwritten (chip_image s r) start bytes) (chip_image s r)
+    chip_image s (record r { memory = memory_by w r.memory start bytes }) ≡ if_accepted w (overwritten (chip_image s r) start bytes) (chip_image s r)
 write_chip s r start bytes (Ok u) e =
     let fits = accepted_fits (chip_image s r) start bytes e in
     let long = image_length s r in
@@ -148,7 +113,7 @@ write_none (suc start) bytes (Ok u) = refl
 write_none start bytes (Err x) = refl
 
 write_by : (f : Bool) (s : Sheet) (r : Record) (start : ℕ) (bytes : List ℕ) →
-    shown f s (cond f (calmed r (memory_by (write_result (shown f s r) start bytes) r.memory start bytes)) r) ≡ written (shown f s r) start bytes
+    shown f s (record r { memory = memory_by (write_result (shown f s r) start bytes) r.memory start bytes }) ≡ written (shown f s r) start bytes
 write_by true s r start bytes = write_chip s r start bytes (write_result (chip_image s r) start bytes) refl
 write_by false s r start bytes = write_none start bytes (write_result [] start bytes)
 
@@ -213,6 +178,15 @@ read_image b size start buffer e =
     elim (leb_tells (start + length buffer) size) [
       | inl p ↦ rw (e, p.0) (bytes_by b.fitted b.sheet b.rec start (length buffer) (omega (arith, p.1)))
       | inr p ↦ rw (e, p.0)
+    ]
+
+-- by a range that lies in the chip
+pub read_inside : {S : Type 0} (b : Bus S) → b.fitted ≡ true → (start : ℕ) (buffer : List ℕ) → start + length buffer ≤ length b.rec.memory →
+    read_into (image_of b) start buffer ≡ take (length buffer) (drop start b.rec.memory)
+read_inside b f start buffer h =
+    elim (leb_tells (start + length buffer) (length b.rec.memory)) [
+      | inl p ↦ read_image b (length b.rec.memory) start buffer (fitted_size b f) ∙ rw p.0
+      | inr p ↦ absurd (omega (arith, p.1))
     ]
 
 -- where the range is not refused, and where it is

@@ -1,5 +1,6 @@
 pub mod Cells
 pub mod Exchanged
+pub mod Traced
 pub mod BytesMoved
 pub mod WholeSessions
 pub mod Asked
@@ -8,3 +9,6 @@ pub mod Moved
 pub mod Answered
 pub mod ByRules
 pub mod Known
+pub mod Carried
+pub mod AtPins
+pub mod Beneath

@@ -1,14 +1,14 @@
 -- READ and WRITE sessions of a bus over a fitted chip that is calm.
-use Rattle.std.proofs.Common.{◌≡◌, ℕ, ◌+◌, ◌*◌, ◌/◌, ◌%◌, ◌<◌, ◌≤◌, Bool, true, false, not, List, [], ◌∷◌, length, take, drop, slice_index, None, sym, ap, ◌∙◌, ap₂, true-eqb, arith}
+use Rattle.std.proofs.Common.{◌≡◌, ℕ, ◌+◌, ◌*◌, ◌/◌, ◌%◌, ◌<◌, ◌≤◌, Bool, true, false, not, cond, List, [], ◌∷◌, length, take, drop, slice_index, None, sym, ap, ◌∙◌, ap₂, true-eqb, arith}
 use Rattle.datasheet.specs.declared.registers.Registers.{Registers}
 use Rattle.datasheet.specs.Kept.{bounded}
 use Rattle.datasheet.specs.Sheets.{cells}
 use Rattle.datasheet.specs.Protection.{first_protected}
 use Rattle.datasheet.specs.Memory.{SoundMemory}
 use Rattle.spi_model.specs.Buses.{Bus, becoming, deselected}
-use Rattle.board.specs.Plains.{patched}
+use Rattle.board_model.specs.Layers.{patched}
 use Rattle.spi_driver.specs.Exchanges.{all_exchanged, all_read}
-use Rattle.spi_driver.specs.Drives.{calm, calmed}
+use Rattle.spi_driver.specs.Drives.{calm, calmed, with_memory}
 use Rattle.spi_driver.proofs.Asked.{is_rested}
 use Rattle.spi_driver.proofs.WholeSessions.{rested, sent, cells_read, cells_left, cells_written, enabled, disabled}
 
@@ -29,6 +29,11 @@ module _ (b : Bus Registers) (h : b ≡ calm b) (e : b.fitted ≡ true) (m : Sou
 
   abbrev rest : Bool → Bus Registers
   rest w = rested b.sheet b.wp b.rec.memory b.rec.stored w
+
+  so_held : (memory : List ℕ) → becoming b (calmed b.rec memory) None ≡ with_memory b memory
+  so_held memory =
+      ap (λ (f : Bool). becoming b (record (cond f (calmed b.rec b.rec.memory) b.rec) { memory = memory }) None) (sym e)
+      ∙ ap (λ (d : Bus Registers). with_memory d memory) (sym h)
 
   -- after the op-code and the address
   abbrev addressed : Bus Registers → ℕ → Bus Registers
@@ -62,7 +67,7 @@ module _ (b : Bus Registers) (h : b ≡ calm b) (e : b.fitted ≡ true) (m : Sou
     -- the latch is set, the bytes are written, and the latch is cleared
     pub write_left :
         deselected bounded (sent (deselected bounded (all_exchanged bounded (addressed (deselected bounded (sent b (0x06 ∷ []))) 0x02) xs)) (0x04 ∷ []))
-        ≡ becoming b (calmed b.rec (patched b.rec.memory start xs)) None
+        ≡ with_memory b (patched b.rec.memory start xs)
     write_left =
         let end = λ (d : Bus Registers). deselected bounded (sent (deselected bounded (all_exchanged bounded (addressed (deselected bounded (sent d (0x06 ∷ []))) 0x02) xs)) (0x04 ∷ [])) in
         let mid = λ (d : Bus Registers). deselected bounded (sent (deselected bounded (all_exchanged bounded (addressed d 0x02) xs)) (0x04 ∷ [])) in
@@ -72,3 +77,4 @@ module _ (b : Bus Registers) (h : b ≡ calm b) (e : b.fitted ≡ true) (m : Sou
         (cells_written b.sheet b.wp b.rec.memory b.rec.stored size (start / 256) (start % 256) xs (high_small start small) (low_small start) bytes fits_free)
         ∙ disabled b.sheet b.wp (patched b.rec.memory (256 * (start / 256) + start % 256) xs) b.rec.stored (not b.sheet.marks.drop)
         ∙ ap₂ (λ (k : ℕ) (f : Bool). record { sheet = b.sheet; wp = b.wp; fitted = f; rec = calmed b.rec (patched b.rec.memory k xs); session = None }) (split start) (sym e)
+        ∙ so_held (patched b.rec.memory start xs)

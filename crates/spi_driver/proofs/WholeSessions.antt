@@ -17,7 +17,7 @@ use Rattle.datasheet.specs.Kept.{bounded}
 use Rattle.spi_model.specs.SteppedBytes.{whole_bytes, taken_byte, record_after}
 use Rattle.spi_model.specs.Buses.{Bus, selected, exchanged, read, deselected}
 use Rattle.spi_driver.proofs.BytesMoved.{within, showing, exchanged_is, read_is, awake, Phase, onward, reading, writing, reads_on, reads_cell, writes_on}
-use Rattle.board.specs.Plains.{patched}
+use Rattle.board_model.specs.Layers.{patched}
 use Rattle.spi_driver.specs.Exchanges.{all_exchanged, all_read}
 use Rattle.spi_driver.specs.Drives.{calmed, calm}
 

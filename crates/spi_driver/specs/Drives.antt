@@ -1,5 +1,5 @@
 -- What a driver shows of the chip behind its bus, and how it leaves the bus.
-use Rattle.std.specs.Prelude.{ℕ, true, false, if◌then◌else◌, ◌&&◌, ◌==◌, List, [], ◌∷◌, ◌++◌, map, take, drop, slice_index, None, Ok, Err, Result}
+use Rattle.std.specs.Prelude.{ℕ, false, if◌then◌else◌, ◌&&◌, ◌==◌, List, [], ◌∷◌, ◌++◌, map, take, drop, slice_index, None, Ok, Err, Result}
 use Rattle.datasheet.specs.declared.sheet.Sheet.{Sheet}
 use Rattle.datasheet.specs.declared.refusal.Refusal.{Refusal}
 use Rattle.datasheet.specs.declared.refusal.Refusal.TheVariants.{UnknownId}
@@ -9,17 +9,12 @@ use Rattle.datasheet.specs.Protection.{first_protected}
 use Rattle.datasheet.specs.declared.registers.Registers.{Registers}
 use Rattle.datasheet.specs.Kept.{bounded}
 use Rattle.spi_model.specs.Buses.{Bus, becoming, selected}
-use Rattle.board_model.specs.declared.Cell.{Cell}
-use Rattle.board_model.specs.Images.{Image, free}
+use Rattle.board_model.specs.Images.{Image, free, fenced}
 use Rattle.board_model.specs.Results.{write_result}
-use Rattle.board.specs.Plains.{patched}
+use Rattle.board_model.specs.Layers.{patched}
 use Rattle.spi_driver.specs.Exchanges.{all_read}
 
 -- ## What it shows
-
--- a fenced cell
-abbrev pub fenced : ℕ → Cell
-fenced byte = record { byte = byte; fenced = true }
 
 -- the cells of a chip: its memory in order, the protected cells fenced, which are those from the first
 -- protected one on
@@ -59,14 +54,16 @@ probed b = if b.fitted then Ok (density_of b.sheet.t) else Err UnknownId
 
 -- ## A write
 
+-- the same bus with this memory behind it
+abbrev pub with_memory : {S : Type 0} → Bus S → List ℕ → Bus S
+with_memory b memory = record b { rec = record b.rec { memory = memory } }
+
 -- the memory after a write that was accepted or refused
 abbrev pub memory_by : Result (Unit {0}) Refusal → List ℕ → ℕ → List ℕ → List ℕ
 memory_by (Ok u) memory start bytes = patched memory start bytes
 memory_by (Err e) memory start bytes = memory
 
--- after a write no session is open, and a fitted chip is awake, its latch 0, its memory with the bytes of an
--- accepted write
+-- an accepted write puts its bytes into the cells from start on, and changes nothing else; a refused one
+-- changes nothing
 abbrev pub after_write : {S : Type 0} → Bus S → ℕ → List ℕ → Bus S
-after_write b start bytes =
-    let memory : List ℕ = memory_by (write_result (image_of b) start bytes) b.rec.memory start bytes in
-    becoming b (if b.fitted then calmed b.rec memory else b.rec) None
+after_write b start bytes = with_memory b (memory_by (write_result (image_of b) start bytes) b.rec.memory start bytes)

@@ -1,5 +1,9 @@
 pub mod Exchanges
 pub mod Drives
+pub mod Beneath
+pub mod Standing
+pub mod Sessions
 pub mod Left
 pub mod Transfers
+pub mod Carried
 pub mod Views

@@ -1,11 +1,16 @@
 // Sessions of a bus, each with the op-code that a driver sends in it.
-ghost use Rattle.std.specs.Prelude.{◌≡◌, ℕ, slice_index, true, false, [], ◌∷◌, ◌/◌, ◌%◌, ◌+◌, take, drop, None, ◌*◌, ◌<◌, ◌≤◌, length};
+ghost use Rattle.std.specs.Prelude.{◌≡◌, ℕ, slice_index, true, false, [], ◌∷◌, ◌++◌, ◌%◌, ◌+◌, take, drop, None, ◌*◌, ◌<◌, ◌≤◌, length};
+ghost use Rattle.datasheet.specs.declared.command.Command.TheVariants.{Wren, Wrdi};
 ghost use Rattle.datasheet.specs.Kept.{bounded};
+ghost use Rattle.datasheet.specs.Machines.{left_by};
 ghost use Rattle.datasheet.specs.Protection.{first_protected};
-ghost use Rattle.spi_model.specs.Buses.{becoming, selected, deselected};
-ghost use Rattle.board.specs.Plains.{patched};
-ghost use Rattle.spi_driver.specs.Exchanges.{all_exchanged, all_read};
-ghost use Rattle.spi_driver.specs.Drives.{calm, calmed};
+ghost use Rattle.spi_model.specs.declared.bus_call.BusCall.TheVariants.{Select};
+ghost use Rattle.spi_model.specs.Buses.{selected, deselected, session_calls};
+ghost use Rattle.board_model.specs.Layers.{patched};
+ghost use Rattle.board_model.specs.Results.{read_into};
+ghost use Rattle.spi_driver.specs.Exchanges.{exchanges, all_exchanged, all_read};
+ghost use Rattle.spi_driver.specs.Drives.{image_of, calm, with_memory};
+ghost use Rattle.spi_driver.specs.Sessions.{session_of, address_of, waking, asking_id, asking_status, reading, writing};
 
 use spi_bus::SpiBus;
 
@@ -33,6 +38,7 @@ fn exchange_all<B: SpiBus>(bus: &mut B, bytes: &mut [u8])
     ensures read { bytes.new ≡ all_read bounded (B.meaning bus.old) bytes.old }
     ensures after { B.meaning bus.new ≡ all_exchanged bounded (B.meaning bus.old) bytes.old }
     ensures bytes { (i : ℕ) → slice_index bytes.old i < 256 }
+    ensures traced { B.trace bus.new ≡ left_by B.traced (B.trace bus.old) (exchanges bytes.old) }
     ensures lent { B.lent bus.new ≡ B.lent bus.old }
 {
     // by places, since after `iter_mut` the library says nothing of what a slice holds
@@ -45,6 +51,7 @@ fn exchange_all<B: SpiBus>(bus: &mut B, bytes: &mut [u8])
 fn send<B: SpiBus>(bus: &mut B, bytes: &[u8])
     ensures after { B.meaning bus.new ≡ all_exchanged bounded (B.meaning bus.old) bytes.now }
     ensures bytes { (i : ℕ) → slice_index bytes.now i < 256 }
+    ensures traced { B.trace bus.new ≡ left_by B.traced (B.trace bus.old) (exchanges bytes.now) }
     ensures lent { B.lent bus.new ≡ B.lent bus.old }
 {
     for byte in bytes {
@@ -57,6 +64,7 @@ fn session<B: SpiBus>(bus: &mut B, bytes: &mut [u8])
     ensures read { bytes.new ≡ all_read bounded (selected bounded (B.meaning bus.old)) bytes.old }
     ensures after { B.meaning bus.new ≡
         deselected bounded (all_exchanged bounded (selected bounded (B.meaning bus.old)) bytes.old) }
+    ensures traced { B.trace bus.new ≡ left_by B.traced (B.trace bus.old) (session_calls bytes.old) }
     ensures lent { B.lent bus.new ≡ B.lent bus.old }
 {
     bus.select();
@@ -64,16 +72,47 @@ fn session<B: SpiBus>(bus: &mut B, bytes: &mut [u8])
     bus.deselect();
 }
 
-/// Ends any session, wakes the chip and sets its latch to 0. The stored bits and the cells stay.
-#[tactic(auto, using(crate::proofs::WholeSessions::settles))]
-pub(crate) fn settle<B: SpiBus>(bus: &mut B)
-    ensures after { B.meaning bus.new ≡ calm (B.meaning bus.old) }
+/// Ends any session, then begins and ends one of no byte, which wakes the chip.
+fn wake<B: SpiBus>(bus: &mut B)
+    ensures after { B.meaning bus.new ≡
+        deselected bounded (selected bounded (deselected bounded (B.meaning bus.old))) }
+    ensures traced { B.trace bus.new ≡ left_by B.traced (B.trace bus.old) waking }
     ensures lent { B.lent bus.new ≡ B.lent bus.old }
 {
     bus.deselect();
     bus.select();
     bus.deselect();
+}
+
+/// Sets the latch to 1, by a session.
+fn set_latch<B: SpiBus>(bus: &mut B)
+    ensures after { B.meaning bus.new ≡
+        deselected bounded (all_exchanged bounded (selected bounded (B.meaning bus.old)) (0x06 ∷ [])) }
+    ensures traced { B.trace bus.new ≡ left_by B.traced (B.trace bus.old) (session_of Wren []) }
+    ensures lent { B.lent bus.new ≡ B.lent bus.old }
+{
+    session(bus, &mut [WREN]);
+}
+
+/// Sets the latch to 0, by a session.
+fn clear_latch<B: SpiBus>(bus: &mut B)
+    ensures after { B.meaning bus.new ≡
+        deselected bounded (all_exchanged bounded (selected bounded (B.meaning bus.old)) (0x04 ∷ [])) }
+    ensures traced { B.trace bus.new ≡ left_by B.traced (B.trace bus.old) (session_of Wrdi []) }
+    ensures lent { B.lent bus.new ≡ B.lent bus.old }
+{
     session(bus, &mut [WRDI]);
+}
+
+/// Ends any session, wakes the chip and sets its latch to 0. The stored bits and the cells stay.
+#[tactic(auto, using(crate::proofs::WholeSessions::settles))]
+pub(crate) fn settle<B: SpiBus>(bus: &mut B)
+    ensures after { B.meaning bus.new ≡ calm (B.meaning bus.old) }
+    ensures traced { B.trace bus.new ≡ left_by B.traced (B.trace bus.old) (waking ++ session_of Wrdi []) }
+    ensures lent { B.lent bus.new ≡ B.lent bus.old }
+{
+    wake(bus);
+    clear_latch(bus);
 }
 
 /// The four bytes of the ID, the code of the maker first, behind the byte that is read with the op-code. Where no chip answers
@@ -83,6 +122,7 @@ pub(crate) fn read_identity<B: SpiBus>(bus: &mut B) -> [u8; 5]
     ensures asked { result ≡
         all_read bounded (selected bounded (B.meaning bus.old)) (0x9F ∷ 0 ∷ 0 ∷ 0 ∷ 0 ∷ []) }
     ensures same { B.meaning bus.new ≡ B.meaning bus.old }
+    ensures traced { B.trace bus.new ≡ left_by B.traced (B.trace bus.old) asking_id }
     ensures lent { B.lent bus.new ≡ B.lent bus.old }
 {
     let mut bytes = [RDID, 0, 0, 0, 0];
@@ -96,6 +136,7 @@ pub(crate) fn read_status<B: SpiBus>(bus: &mut B) -> u8
     ensures fitted { (B.meaning bus.old).fitted ≡
         true → result ≡ (B.meaning bus.old).rec.stored % 256 }
     ensures same { B.meaning bus.new ≡ B.meaning bus.old }
+    ensures traced { B.trace bus.new ≡ left_by B.traced (B.trace bus.old) asking_status }
     ensures lent { B.lent bus.new ≡ B.lent bus.old }
 {
     let mut bytes = [RDSR, 0];
@@ -108,7 +149,8 @@ pub(crate) fn read_status<B: SpiBus>(bus: &mut B) -> u8
 fn address<B: SpiBus>(bus: &mut B, code: u8, start: usize)
     requires { start < 65536 }
     ensures after { B.meaning bus.new ≡
-        all_exchanged bounded (selected bounded (B.meaning bus.old)) (code ∷ start / 256 ∷ start % 256 ∷ []) }
+        all_exchanged bounded (selected bounded (B.meaning bus.old)) (code ∷ address_of start) }
+    ensures traced { B.trace bus.new ≡ left_by B.traced (B.trace bus.old) (Select ∷ exchanges (code ∷ address_of start)) }
     ensures lent { B.lent bus.new ≡ B.lent bus.old }
 {
     bus.select();
@@ -121,9 +163,9 @@ pub(crate) fn read_cells<B: SpiBus>(bus: &mut B, start: usize, buffer: &mut [u8]
     requires fitted { (B.meaning bus.old).fitted ≡ true }
     requires inside { start + length buffer.old ≤ length (B.meaning bus.old).rec.memory }
     requires small { start < 65536 }
-    ensures filled { buffer.new ≡
-        take (length buffer.old) (drop start (B.meaning bus.old).rec.memory) }
+    ensures filled { buffer.new ≡ read_into (image_of (B.meaning bus.old)) start buffer.old }
     ensures same { B.meaning bus.new ≡ B.meaning bus.old }
+    ensures traced { B.trace bus.new ≡ left_by B.traced (B.trace bus.old) (reading start (length buffer.old)) }
     ensures lent { B.lent bus.new ≡ B.lent bus.old }
 {
     address(bus, READ, start);
@@ -139,13 +181,14 @@ pub(crate) fn write_cells<B: SpiBus>(bus: &mut B, start: usize, bytes: &[u8])
     requires fitted { (B.meaning bus.old).fitted ≡ true }
     requires free { start + length bytes.now ≤ first_protected (B.meaning bus.old).sheet (B.meaning bus.old).rec }
     requires small { start < 65536 }
-    ensures after { B.meaning bus.new ≡ becoming (B.meaning bus.old)
-        (calmed (B.meaning bus.old).rec (patched (B.meaning bus.old).rec.memory start bytes.now)) None }
+    ensures after { B.meaning bus.new ≡
+        with_memory (B.meaning bus.old) (patched (B.meaning bus.old).rec.memory start bytes.now) }
+    ensures traced { B.trace bus.new ≡ left_by B.traced (B.trace bus.old) (writing start bytes.now) }
     ensures lent { B.lent bus.new ≡ B.lent bus.old }
 {
-    session(bus, &mut [WREN]);
+    set_latch(bus);
     address(bus, WRITE, start);
     send(bus, bytes);
     bus.deselect();
-    session(bus, &mut [WRDI]);
+    clear_latch(bus);
 }

@@ -3,8 +3,10 @@ ghost use Rattle.std.specs.Prelude.{◌≡◌, ◌+◌, ◌<◌, ◌≤◌, ◌%
 ghost use Rattle.datasheet.specs.declared.sheet.Sheet.{Sheet};
 ghost use Rattle.datasheet.specs.Sheets.{cells};
 ghost use Rattle.datasheet.specs.Records.{Record};
+ghost use Rattle.datasheet.specs.Machines.{left_by};
 ghost use Rattle.datasheet.specs.Protection.{first_protected};
 ghost use Rattle.spi_driver.specs.Drives.{image_of, density_by, identity_of, probed, calm};
+ghost use Rattle.spi_driver.specs.Sessions.{probing, surveying};
 
 use crate::session::{read_identity, read_status, settle};
 use datasheet::Refusal;
@@ -55,19 +57,23 @@ pub(crate) fn probe<B: SpiBus>(bus: &mut B) -> Result<u8, Refusal>
     ensures by_id { result ≡ density_by (identity_of (B.meaning bus.old)) }
     ensures small { IfOk result (λ d. d ≤ 5) }
     ensures after { B.meaning bus.new ≡ calm (B.meaning bus.old) }
+    ensures traced { B.trace bus.new ≡ left_by B.traced (B.trace bus.old) probing }
     ensures lent { B.lent bus.new ≡ B.lent bus.old }
 {
     settle(bus);
     density(read_identity(bus))
 }
 
-/// Ends any session, wakes the chip and sets its latch to 0; answers what is found. Where the ID is not known there are no cells.
+/// Asks a bus at rest for its chip, with what a probe does to it first; answers what is found. Where the ID is not known there are
+/// no cells.
 pub(crate) fn survey<B: SpiBus>(bus: &mut B) -> Found
+    requires { calm (B.meaning bus.old) ≡ B.meaning bus.old }
     ensures size { result.size ≡ length (image_of (B.meaning bus.old)) }
     ensures few { result.size ≤ 32768 }
     ensures free { (B.meaning bus.old).fitted ≡
         true → result.free ≡ first_protected (B.meaning bus.old).sheet (B.meaning bus.old).rec }
-    ensures after { B.meaning bus.new ≡ calm (B.meaning bus.old) }
+    ensures same { B.meaning bus.new ≡ B.meaning bus.old }
+    ensures traced { B.trace bus.new ≡ left_by B.traced (B.trace bus.old) (surveying (B.meaning bus.old)) }
     ensures lent { B.lent bus.new ≡ B.lent bus.old }
 {
     match probe(bus) {

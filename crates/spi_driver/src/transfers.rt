@@ -1,14 +1,16 @@
 // A write and a read through a driver over a bus to a chip that was left in any state.
-ghost use Rattle.std.specs.Prelude.{◌≡◌};
-ghost use Rattle.datasheet.specs.Chips.{whole};
+ghost use Rattle.std.specs.Prelude.{◌≡◌, true, length};
+ghost use Rattle.datasheet.specs.Chips.{deselected, whole};
 ghost use Rattle.datasheet.specs.Calls.{run};
 ghost use Rattle.datasheet.specs.Kept.{bounded};
 ghost use Rattle.chip.specs.Views.{chip_of};
+ghost use Rattle.spi_model.specs.Puts.{tracing, puts};
 ghost use Rattle.spi_model.specs.Meanings.{made};
 ghost use Rattle.spi_model.specs.Laws.{LineIsBus};
-ghost use Rattle.spi_bus.specs.Ways.{wp_of};
+ghost use Rattle.spi_bus.specs.Ways.{wp_of, line_puts};
+ghost use Rattle.spi_driver.specs.Carried.{CarriedOut};
 ghost use Rattle.spi_driver.specs.Left.{samples, left_in};
-ghost use Rattle.spi_driver.specs.Transfers.{transferred, transferred_parked};
+ghost use Rattle.spi_driver.specs.Transfers.{transferred, transferred_parked, transfer_calls};
 
 use crate::driver::Driver;
 use board::Board;
@@ -53,6 +55,8 @@ impl BusWork for WriteAndRead<'_> {
         (record { outcome = outcome; buffer = filled; left = left.rec } ≡ transferred b asked.start asked.bytes.now buffer)
         × (left.sheet ≡ b.sheet) };
 
+    ghost calls = { λ asked b buffer. transfer_calls b asked.start asked.bytes.now (length buffer) };
+
     #[tactic(auto, unfolding(crate::specs::Transfers::transferred_to))]
     fn carry_out<B: SpiBus>(self, bus: &mut B, buffer: &mut [u8]) -> TransferOutcome {
         let mut driver = Driver::new(bus);
@@ -63,10 +67,10 @@ impl BusWork for WriteAndRead<'_> {
 }
 
 /// Writes bytes and reads into a buffer from the same start, through a driver over a line to these pins, whatever chip stands
-/// behind them and in whatever state. It reaches the chip by samples alone: so the samples of the line carry out write and read,
-/// in both modes and with any number of held samples, on every chip. Each is answered the refusal that a board answers: a chip
-/// whose ID is not known has no cells.
-#[tactic(auto, using(spi_bus::proofs::Laws::lines))]
+/// behind them and in whatever state. It reaches the chip by samples alone, and these are the list of the definition; a fitted chip
+/// is deselected behind them. So the samples carry out write and read, in both modes and with any number of held samples, on every
+/// chip. Each is answered the refusal that a board answers: a chip whose ID is not known has no cells.
+#[tactic(auto, using(spi_bus::proofs::Laws::lines, crate::proofs::AtPins::carried_out))]
 pub fn transfer_over<P: Pins>(
     pins: &mut P,
     setting: Setting,
@@ -76,9 +80,15 @@ pub fn transfer_over<P: Pins>(
 ) -> TransferOutcome
     ensures comes { record { outcome = result; buffer = buffer.new; left = (P.chip pins.new).rec } ≡
         transferred (made bounded setting.wp (P.chip pins.old)) start bytes.now buffer.old }
+    ensures put { P.chip pins.new ≡ puts bounded (P.chip pins.old)
+        (line_puts setting (transfer_calls (made bounded setting.wp (P.chip pins.old)) start bytes.now (length buffer.old))) }
+    ensures traced { P.trace pins.new ≡ tracing P.traced (P.trace pins.old)
+        (line_puts setting (transfer_calls (made bounded setting.wp (P.chip pins.old)) start bytes.now (length buffer.old))) }
+    ensures session { (P.chip pins.new).fitted ≡ true → (P.chip pins.new).pins ≡ deselected }
     ensures sheet { (P.chip pins.new).sheet ≡ (P.chip pins.old).sheet }
     ensures lent { P.lent pins.new ≡ P.lent pins.old }
     ensures lines { (LineIsBus whole) × (LineIsBus bounded) }
+    ensures carried { CarriedOut }
 {
     work_over_line(pins, setting, WriteAndRead { start, bytes }, buffer)
 }

@@ -11,3 +11,4 @@ pub mod SteppedChips
 pub mod SteppedBuses
 pub mod Blank
 pub mod Aligned
+pub mod Samples

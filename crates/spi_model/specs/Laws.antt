@@ -116,11 +116,10 @@ BothBuses =
     ≡ meaning_of bounded wp (line_run bounded mode wp waits l xs))
 
 -- The samples of a whole session, whatever the chip is and does: CS falls, the bytes are clocked, CS rises.
-abbrev pub SessionSamples : Keeping → Type 0
-SessionSamples K =
-    (mode : Mode) (wp : Bool) (waits : ℕ) (c : ChipState K.Kept) (bytes : List ℕ) →
-    line_samples K mode wp waits (line_made K mode wp c) (session_calls bytes)
-    ≡ session_samples mode wp waits bytes
+abbrev pub SessionSamples : Type 0
+SessionSamples =
+    (mode : Mode) (wp : Bool) (waits : ℕ) (bytes : List ℕ) →
+    line_samples mode wp waits false (session_calls bytes) ≡ session_samples mode wp waits bytes
 
 -- ## A blank chip
 

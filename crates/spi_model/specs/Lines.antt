@@ -1,6 +1,5 @@
 -- A line at the pins: the samples of each call, what they make of the chip, and what is read in them.
-use Rattle.std.specs.Prelude.{ℕ, min, Bool, true, false, if◌then◌else◌, List, [], ◌∷◌}
-use Rattle.std.specs.List.{flat_map}
+use Rattle.std.specs.Prelude.{ℕ, min, Bool, true, false, if◌then◌else◌, List, [], ◌∷◌, ◌++◌}
 use Rattle.datasheet.specs.declared.sample.Sample.{Sample}
 use Rattle.datasheet.specs.Chips.{Keeping}
 use Rattle.datasheet.specs.Calls.{ChipState}
@@ -41,6 +40,11 @@ module _ (mode : Mode) (wp : Bool) (waits : ℕ) where
   call_samples true Deselect = rises mode wp ∷ []
   call_samples false Deselect = []
 
+  -- all samples of a list of calls, in order
+  abbrev pub line_samples : Bool → List BusCall → List Sample
+  line_samples o [] = []
+  line_samples o (x ∷ xs) = call_samples o x ++ line_samples (open_after o x) xs
+
 module _ (K : Keeping) (mode : Mode) (wp : Bool) where
   -- making a line puts one sample with CS high
   abbrev pub line_made : ChipState K.Kept → AtLine K.Kept
@@ -74,7 +78,3 @@ module _ (K : Keeping) (mode : Mode) (wp : Bool) where
 
     abbrev pub line_answers : AtLine K.Kept → List BusCall → List BusAnswer
     line_answers = answered_by line_after line_answer
-
-    -- all samples of a list of calls, in order
-    abbrev pub line_samples : AtLine K.Kept → List BusCall → List Sample
-    line_samples l xs = flat_map (λ samples. samples) (answered_by line_after (λ m x. call_samples mode wp waits m.in_session x) l xs)

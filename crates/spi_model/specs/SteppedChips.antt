@@ -1,8 +1,9 @@
 -- A chip stepped by bytes: a byte at once, in the place of the sixteen samples of its rises and falls.
-use Rattle.std.specs.Prelude.{ℕ, Bool, false, if◌then◌else◌, not, ◌&&◌, List}
+use Rattle.std.specs.Prelude.{ℕ, Bool, false, if◌then◌else◌, not, ◌&&◌, List, [], ◌∷◌, ◌++◌}
 use Rattle.datasheet.specs.declared.registers.Registers.{Registers}
 use Rattle.datasheet.specs.declared.sheet.Sheet.{Sheet}
 use Rattle.datasheet.specs.declared.level.Level.TheVariants.{HighZ}
+use Rattle.datasheet.specs.declared.sample.Sample.{Sample}
 use Rattle.datasheet.specs.Records.{Record}
 use Rattle.datasheet.specs.Chips.{PinState, deselected, selected}
 use Rattle.datasheet.specs.Calls.{ChipState}
@@ -17,7 +18,7 @@ use Rattle.spi_model.specs.declared.bus_call.BusCall.{BusCall}
 use Rattle.spi_model.specs.declared.bus_call.BusCall.TheVariants.{Select, Exchange, Deselect}
 use Rattle.spi_model.specs.declared.bus_answer.BusAnswer.{BusAnswer}
 use Rattle.spi_model.specs.declared.bus_answer.BusAnswer.TheVariants.{Done, Read}
-use Rattle.spi_model.specs.Lines.{AtLine, byte_read, line_after}
+use Rattle.spi_model.specs.Lines.{AtLine, open_after, call_samples, byte_read, line_after}
 use Rattle.spi_model.specs.Meanings.{chip_at}
 
 -- whether a byte can be taken at once: the chip is fitted, SCK rests low, HOLD is high, and the session has
@@ -56,6 +57,17 @@ module _ (wp : Bool) where
 
   abbrev pub stepped_answers : AtLine Registers → List BusCall → List BusAnswer
   stepped_answers = answered_by stepped_after stepped_answer
+
+  -- the samples of a call, from whether a session is open: those of CS alone
+  abbrev pub cs_samples : Bool → BusCall → List Sample
+  cs_samples o Select = call_samples Mode0 wp 0 o Select
+  cs_samples o (Exchange x) = []
+  cs_samples o Deselect = call_samples Mode0 wp 0 o Deselect
+
+  -- all samples of a list of calls, in order
+  abbrev pub stepped_samples : Bool → List BusCall → List Sample
+  stepped_samples o [] = []
+  stepped_samples o (x ∷ xs) = cs_samples o x ++ stepped_samples (open_after o x) xs
 
 -- ## The same at once
 

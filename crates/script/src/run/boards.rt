@@ -2,23 +2,24 @@
 ghost use Rattle.std.specs.Prelude.{◌≡◌, ◌≤◌, ◌+◌, ◌*◌, length, IfOk};
 ghost use Rattle.script.specs.Steps.{board_kinds, first};
 ghost use Rattle.script.specs.Replies.{three_bytes, place_bytes};
-ghost use Rattle.script.specs.Runs.{CameTo, board_outcome};
+ghost use Rattle.script.specs.Runs.{CameTo, board_outcome, outcome_below};
 ghost use Rattle.script.specs.Laws.{ReadsExactly};
-ghost use Rattle.script.specs.Kept.{KeepsFenced, KeepsUnnamed};
+ghost use Rattle.script.specs.Kept.{KeepsFenced, KeepsUnnamed, KeepsBeneath};
 
 use super::steps::Fault;
 use super::{Answers, Counts, Runs, run};
 use board::Board;
 use datasheet::Refusal;
+use std::slice::from_ref;
 
-/// A step of the board run. The bytes of a write of eight stay a part of the script.
+/// A step of the board run. The data bytes of a write stay a part of the script.
 #[derive(Drop)]
 pub(super) enum BoardStep<'s> {
     Size,
     Fence { start: usize },
     ReadEight { start: usize },
     WriteEight { start: usize, bytes: &'s [u8; 8] },
-    WriteOne { start: usize, byte: u8 },
+    WriteOne { start: usize, byte: &'s u8 },
 }
 
 /// The start that a step names in three bytes.
@@ -56,9 +57,8 @@ struct OnBoard<B> {
 }
 
 impl<'s, B: Board> Runs<'s> for OnBoard<B> {
-    ghost use Rattle.board_model.specs.Images.{Image};
     ghost use Rattle.board_model.specs.Calls.{BoardCall, BoardAnswer};
-    ghost use Rattle.script.specs.Machines.{board_machine};
+    ghost use Rattle.script.specs.Machines.{machine_below};
     ghost use Rattle.script.specs.StepCalls.{board_call_of};
     ghost use Rattle.script.specs.Views.{first_of};
 
@@ -70,13 +70,13 @@ impl<'s, B: Board> Runs<'s> for OnBoard<B> {
 
     ghost kinds = { board_kinds };
 
-    ghost State = { Image };
+    ghost State = { B.Beneath };
 
-    ghost state = { λ s. B.image s.board };
+    ghost state = { λ s. B.beneath s.board };
 
     ghost Answer = { BoardAnswer };
 
-    ghost machine = { board_machine };
+    ghost machine = { machine_below B.shows B.put };
 
     ghost Lent = { B.Lent };
 
@@ -96,6 +96,7 @@ impl<'s, B: Board> Runs<'s> for OnBoard<B> {
                 let start = start_of(*high, *middle, *low);
                 Ok((BoardStep::ReadEight { start }, rest))
             }
+            // a pattern has one part of open length: the eight bytes are taken off it together
             [6, high, middle, low, tail @ ..] => match tail.split_first_chunk::<8>() {
                 Some((bytes, rest)) => {
                     let start = start_of(*high, *middle, *low);
@@ -105,7 +106,7 @@ impl<'s, B: Board> Runs<'s> for OnBoard<B> {
             },
             [7, high, middle, low, byte, rest @ ..] => {
                 let start = start_of(*high, *middle, *low);
-                Ok((BoardStep::WriteOne { start, byte: *byte }, rest))
+                Ok((BoardStep::WriteOne { start, byte }, rest))
             }
             [4..=7, ..] => Err(Fault::ShortStep),
             _ => Err(Fault::UnknownKind),
@@ -139,7 +140,7 @@ impl<'s, B: Board> Runs<'s> for OnBoard<B> {
                 Ok(()) => answers.put(&[0x86]),
                 Err(refusal) => answers.put_refusal(refusal),
             },
-            BoardStep::WriteOne { start, byte } => match self.board.write(start, &[byte]) {
+            BoardStep::WriteOne { start, byte } => match self.board.write(start, from_ref(byte)) {
                 Ok(()) => answers.put(&[0x86]),
                 Err(refusal) => answers.put_refusal(refusal),
             },
@@ -156,11 +157,14 @@ pub fn board_run<B: Board>(
     buffer: &mut [u8],
 ) -> Result<Counts, Refusal>
     ensures outcome { CameTo (board_outcome (B.image board.old) script.now buffer.old) result (B.image board.new) buffer.new }
+    ensures beneath { B.beneath board.new ≡
+        (outcome_below B.shows B.put (B.beneath board.old) script.now buffer.old).left }
     ensures within { IfOk result (λ counts. counts.bytes ≤ length buffer.old) }
     ensures lent { B.lent board.new ≡ B.lent board.old }
     ensures law { ReadsExactly board_kinds }
     ensures fences { KeepsFenced }
     ensures unnamed { KeepsUnnamed }
+    ensures unaltered { KeepsBeneath B.Board }
 {
     let mut on = OnBoard { board };
     run(&mut on, script, buffer)

@@ -1,6 +1,6 @@
 use Rattle.std.proofs.Common.{ap, ◌∙◌, Err, arith}
 use Rattle.std.proofs.lemmas.Result.{err_from_is_err_and}
-use Rattle.board_join.proofs.Seams.{length_joined}
+use Rattle.board_model.proofs.Joins.{length_joined}
 use Rattle.board_join.proofs.Halves.{cut_done, cut_refused}
 use Rattle.board_join.proofs.Join.cut.Goals as goal
 

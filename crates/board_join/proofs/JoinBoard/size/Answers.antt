@@ -1,5 +1,5 @@
 use Rattle.std.proofs.Common.{arith}
-use Rattle.board_join.proofs.Seams.{length_joined}
+use Rattle.board_model.proofs.Joins.{length_joined}
 use Rattle.board_join.proofs.JoinBoard.size.Goals as goal
 
 pub returns-clause-answer : goal.returns-clause-answer

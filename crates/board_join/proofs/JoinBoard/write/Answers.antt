@@ -1,5 +1,9 @@
 use Rattle.std.proofs.Common.{sym, ap, is_some, ◌∙◌}
-use Rattle.board_join.proofs.Halves.{parts, second_told, free, write_answered, first_written, second_written, write_refused, first_left, second_left, both_written}
+use Rattle.board_model.proofs.Standing.{image_written}
+use Rattle.board_model.proofs.Joins.{join_shown}
+use Rattle.board_join.proofs.Halves.{parts, second_told, free, write_answered, write_refused}
+use Rattle.board_model.proofs.JoinBeneath.{join_standing}
+use Rattle.board_join.proofs.Parted.{both_left, both_kept}
 use Rattle.board_join.proofs.JoinBoard.write.Goals as goal
 
 pub returns-in_err-behind : goal.returns-in_err-behind
@@ -16,14 +20,14 @@ returns g c =
     let f = free h c.first_fence.ensures.same c.first_fence-2.ensures.same c.in_ok-ahead.ensures.answer c.in_ok-behind.ensures.answer (c.if-is_some.ensures ∙ ap is_some c.or.ensures) in
     let bs = c.args.bytes.now in
     let split = c.split_at.ensures in
-    let first = first_written bs f split.front split.back c.write.ensures.after in
-    let second = second_written bs f split.front split.back c.write-2.ensures.after in
+    let below =
+    both_left bs f split.front split.back g.A.Board.shows g.A.Board.put g.B.Board.put (g.A.Board.shown w.first)
+    (c.first_fence.ensures.beneath ∙ told.beneath_first) (c.first_fence-2.ensures.beneath ∙ told.beneath_second) c.write.ensures.beneath c.write-2.ensures.beneath in
     record {
       answer = c.write-2.ensures.answer ∙ write_answered bs f split.front split.back;
-      after = both_written (g.A.Board.image w.first) (g.B.Board.image w.second) c.args.start bs first second;
+      after = image_written (join_standing g.A.Board.standing g.B.Board.standing) c.args.start bs (join_shown (g.A.Board.shown w.first) (g.B.Board.shown w.second)) (join_shown (g.A.Board.shown _) (g.B.Board.shown _)) below;
+      beneath = below;
       lent = λ i. ((c.write.ensures.lent ∙ c.first_fence.ensures.lent ∙ told.lent_first) i, (c.write-2.ensures.lent ∙ c.first_fence-2.ensures.lent ∙ told.lent_second) i);
-      first = first;
-      second = second;
     }
 
 pub returns-then-is_some : goal.returns-then-is_some
@@ -35,12 +39,11 @@ returns-then-is_some g c =
     let ahead = c.in_ok-ahead.ensures.answer in
     let behind = c.in_ok-behind.ensures.answer in
     let some = c.if-is_some.ensures ∙ ap is_some c.or.ensures in
-    let first = c.first_fence.ensures.same ∙ first_left bs h ahead behind some in
-    let second = c.first_fence-2.ensures.same ∙ second_left bs h ahead behind some in
+    let refused = write_refused bs h ahead behind some in
+    let below = both_kept _ refused (c.first_fence.ensures.beneath ∙ told.beneath_first) (c.first_fence-2.ensures.beneath ∙ told.beneath_second) in
     record {
-      answer = sym (write_refused bs h ahead behind some);
-      after = both_written (g.A.Board.image w.first) (g.B.Board.image w.second) c.args.start bs first second;
+      answer = sym refused;
+      after = image_written (join_standing g.A.Board.standing g.B.Board.standing) c.args.start bs (join_shown (g.A.Board.shown w.first) (g.B.Board.shown w.second)) (join_shown (g.A.Board.shown _) (g.B.Board.shown _)) below;
+      beneath = below;
       lent = λ i. ((c.first_fence.ensures.lent ∙ told.lent_first) i, (c.first_fence-2.ensures.lent ∙ told.lent_second) i);
-      first = first;
-      second = second;
     }

@@ -1,5 +1,5 @@
 use Rattle.std.proofs.Common.{rules}
-use Rattle.board_window.proofs.Views.{found_low, fence_here}
+use Rattle.board_model.proofs.Windows.{found_low, fence_here}
 use Rattle.board_window.proofs.WindowBoard.first_fence.Goals as goal
 
 -- the closure asks that the place lie at the base or after it, besides what holds of its captures

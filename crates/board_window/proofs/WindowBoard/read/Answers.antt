@@ -1,5 +1,5 @@
 use Rattle.std.proofs.Common.{◌∙◌}
-use Rattle.board_window.proofs.Views.{win_filled}
+use Rattle.board_model.proofs.Windows.{win_filled}
 use Rattle.board_window.proofs.WindowBoard.read.Goals as goal
 
 pub returns-clause-filled : goal.returns-clause-filled

@@ -1,9 +1,13 @@
-use Rattle.std.proofs.Common.{ℕ, ◌+◌, ◌≤◌, length, take, drop, sym, ap, ◌∙◌, subst}
+use Rattle.std.proofs.Common.{ℕ, ◌+◌, ◌≤◌, length, take, drop, List, sym, ap, ◌∙◌, ap₂, subst}
 use Rattle.datasheet.specs.declared.registers.Registers.{Registers}
 use Rattle.datasheet.specs.Kept.{bounded}
+use Rattle.datasheet.specs.Machines.{left_by}
+use Rattle.spi_model.specs.declared.bus_call.BusCall.TheVariants.{Deselect}
 use Rattle.spi_model.specs.Buses.{Bus, deselected}
-use Rattle.spi_driver.specs.Exchanges.{all_exchanged, all_read}
+use Rattle.spi_driver.specs.Exchanges.{exchanges, all_exchanged, all_read}
+use Rattle.spi_driver.proofs.Cells.{read_inside}
 use Rattle.spi_driver.proofs.Moved.{read_filled, read_left}
+use Rattle.spi_driver.proofs.Traced.{read_traced}
 use Rattle.spi_driver.proofs.session.read_cells.Goals as goal
 
 pub returns-clause-filled : goal.returns-clause-filled
@@ -15,6 +19,7 @@ returns-clause-filled g c =
     ∙ ap (λ (d : Bus Registers). all_read bounded d xs) c.address.ensures.after
     ∙ read_filled b c.requires.calm c.requires.fitted (g.B.SpiBus.sound c.args.bus.now) c.args.start c.requires.small xs c.exchange_all.ensures.bytes inside
     ∙ ap (λ (n : ℕ). take n (drop c.args.start b.rec.memory)) c.fill.ensures.len
+    ∙ sym (read_inside b c.requires.fitted c.args.start c.args.buffer.now c.requires.inside)
 
 pub returns-clause-same : goal.returns-clause-same
 returns-clause-same g c =
@@ -24,3 +29,12 @@ returns-clause-same g c =
     c.deselect.ensures.after
     ∙ ap (deselected bounded) (c.exchange_all.ensures.after ∙ ap (λ (d : Bus Registers). all_exchanged bounded d xs) c.address.ensures.after)
     ∙ read_left b c.requires.calm c.requires.fitted (g.B.SpiBus.sound c.args.bus.now) c.args.start c.requires.small xs c.exchange_all.ensures.bytes inside
+
+pub returns-clause-traced : goal.returns-clause-traced
+returns-clause-traced g c =
+    let traced = g.B.SpiBus.traced in
+    let filled = c.fill.ensures.after (λ y e. e) in
+    c.deselect.ensures.traced
+    ∙ ap (λ t. traced t Deselect)
+    (c.exchange_all.ensures.traced ∙ ap₂ (λ t (xs : List ℕ). left_by traced t (exchanges xs)) c.address.ensures.traced filled)
+    ∙ read_traced traced (g.B.SpiBus.trace c.args.bus.now) c.args.start (length c.args.buffer.now)

@@ -19,5 +19,5 @@ returns c =
       answer = write_done m s bytes all lies;
       after = write_left m s bytes all lies copied;
       lent = refl;
-      memory = memory_left m s bytes all lies copied;
+      beneath = memory_left m s bytes all lies copied;
     }

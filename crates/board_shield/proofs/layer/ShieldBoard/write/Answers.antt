@@ -1,8 +1,12 @@
 use Rattle.std.proofs.Common.{sym, ap, ◌∙◌}
 use Rattle.board_model.specs.Images.{Image}
-use Rattle.board_model.specs.Results.{write_result, written}
+use Rattle.board_model.specs.Results.{write_result}
+use Rattle.board_model.specs.Layers.{shielded}
+use Rattle.board_model.proofs.Standing.{image_written}
 use Rattle.board_shield.specs.Tables.{ranges_of}
-use Rattle.board_shield.proofs.Covers.{passed, shown_written, below_written}
+use Rattle.board_shield.proofs.Covers.{passed}
+use Rattle.board_model.proofs.ShieldBeneath.{shield_standing}
+use Rattle.board_shield.proofs.Through.{shield_left}
 use Rattle.board_shield.proofs.layer.ShieldBoard.write.Goals as goal
 
 pub returns-clause-answer : goal.returns-clause-answer
@@ -11,20 +15,19 @@ returns-clause-answer g c =
     let i = g.B.Board.image c.args.self.now.below in
     let did = c.in_ok-first_fence.ensures in
     let o = passed rs i c.args.start c.args.bytes.now did.answer c.if-is_some.ensures in
-    c.write.ensures.answer ∙ ap (λ (j : Image). write_result j c.args.start c.args.bytes.now) did.below ∙ sym o
+    let shown = g.B.Board.shown _ ∙ ap (λ b. g.B.Board.shows b.below) did.beneath ∙ sym (g.B.Board.shown c.args.self.now.below) in
+    c.write.ensures.answer ∙ ap (λ (j : Image). write_result j c.args.start c.args.bytes.now) shown ∙ sym o
+
+pub returns-clause-beneath : goal.returns-clause-beneath
+returns-clause-beneath g c =
+    let rs = ranges_of c.args.self.now.ranges in
+    let i = g.B.Board.image c.args.self.now.below in
+    let did = c.in_ok-first_fence.ensures in
+    let o = passed rs i c.args.start c.args.bytes.now did.answer c.if-is_some.ensures in
+    let shown = g.B.Board.shown _ ∙ ap (λ b. g.B.Board.shows b.below) did.beneath ∙ sym (g.B.Board.shown c.args.self.now.below) in
+    shield_left g.B.Board.put rs i c.args.start c.args.bytes.now (ap (λ b. b.ranges) did.beneath) (ap (λ b. b.below) did.beneath) o shown c.write.ensures.beneath
 
 pub returns-clause-after : goal.returns-clause-after
 returns-clause-after g c =
-    let rs = ranges_of c.args.self.now.ranges in
-    let i = g.B.Board.image c.args.self.now.below in
-    let did = c.in_ok-first_fence.ensures in
-    let o = passed rs i c.args.start c.args.bytes.now did.answer c.if-is_some.ensures in
-    rw did.ranges (shown_written rs i _ c.args.start c.args.bytes.now o (c.write.ensures.after ∙ ap (λ (j : Image). written j c.args.start c.args.bytes.now) did.below))
-
-pub returns-clause-below : goal.returns-clause-below
-returns-clause-below g c =
-    let rs = ranges_of c.args.self.now.ranges in
-    let i = g.B.Board.image c.args.self.now.below in
-    let did = c.in_ok-first_fence.ensures in
-    let o = passed rs i c.args.start c.args.bytes.now did.answer c.if-is_some.ensures in
-    below_written rs i _ c.args.start c.args.bytes.now o (c.write.ensures.after ∙ ap (λ (j : Image). written j c.args.start c.args.bytes.now) did.below)
+    let w = c.args.self.now in
+    image_written (shield_standing g.B.Board.standing) c.args.start c.args.bytes.now (ap (shielded (ranges_of w.ranges)) (g.B.Board.shown w.below)) (ap (shielded _) (g.B.Board.shown _)) (returns-clause-beneath g c)

@@ -1,4 +1,4 @@
-use Rattle.std.proofs.Common.{Bool, sym, ap, ◌∙◌, arith}
+use Rattle.std.proofs.Common.{Bool, sym, ap, ap₂, ◌∙◌, arith}
 use Rattle.datasheet.specs.declared.registers.Registers.{Registers}
 use Rattle.datasheet.specs.Calls.{ChipState}
 use Rattle.datasheet.specs.Kept.{bounded}
@@ -41,13 +41,15 @@ returns-then-self-clause-after g c =
     let did = stepped_as_put line bus.wp c.args.byte bus.at_rest bus.aligned c.if-self.true in
     meant Mode0 bus.wp 0 line c.args.byte bus.at_rest c.if-self.true _ (c.step.ensures.state ∙ did.0)
 
-pub returns-then-self-clause-put : goal.returns-then-self-clause-put
-returns-then-self-clause-put g c =
+pub returns-then-self-clause-traced : goal.returns-then-self-clause-traced
+returns-then-self-clause-traced g c =
     let bus = c.args.self.now in
     let line = stepped_bus_of g.C.Pins.chip bus in
     let did = stepped_as_put line bus.wp c.args.byte bus.at_rest bus.aligned c.if-self.true in
-    c.step.ensures.state ∙ did.0
-    ∙ ap (λ (t : Bool). puts bounded line.chip (call_samples Mode0 bus.wp 0 t (Exchange c.args.byte))) (sym c.if-self.true)
+    let put = c.step.ensures.state ∙ did.0
+    ∙ ap (λ (t : Bool). puts bounded line.chip (call_samples Mode0 bus.wp 0 t (Exchange c.args.byte))) (sym c.if-self.true) in
+    ap₂ (λ (d : ChipState Registers) (t : g.C.Pins.Trace). record { mode = Mode0; waits = 0; wp = bus.wp; line = record { chip = d; in_session = bus.in_session }; pins = t })
+    put c.step.ensures.traced
 
 pub returns-then-self-clause-law : goal.returns-then-self-clause-law
 returns-then-self-clause-law g c = byte_at_once
