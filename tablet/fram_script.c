@@ -1,5 +1,5 @@
-/* Runs one script on the model of an FRAM chip at its pins, or of the memory board over such a chip, and tells each step and
- * its answer in words. Usage and an example are in README.md; scripts, samples and answers are in docs/FORMATS.md; the
+/* Runs one script on the model of an FRAM chip at its pins, of the memory board over such a chip, or on a dump, and tells each
+ * step and its answer in words. Usage and examples are in README.md; scripts, samples and answers are in docs/FORMATS.md; the
  * refusals are in docs/REFUSALS.md.
  *
  * All work is done by libfram.a. What it answers is taken apart here with a check before every byte that is read, so that
@@ -24,7 +24,8 @@ enum status {
     STATUS_BAD_ANSWER = 3  /* the library's answer does not fit the script */
 };
 
-enum run { RUN_CHIP, RUN_BOARD };
+/* The runs. Each is one bit, so that a number can stand for several. */
+enum run { RUN_CHIP = 0x01, RUN_BOARD = 0x02, RUN_DUMP = 0x04 };
 
 /* The kinds of steps. */
 enum kind {
@@ -82,12 +83,24 @@ enum { TEXT_ROOM = 80, CELLS_ROOM = 3 * EIGHT_CELLS };
 /* The room of the first read from a file; it is doubled as long as the file goes on. */
 enum { FIRST_ROOM = 4096 };
 
-static const char usage[] = "usage: fram_script (chip|board) PART STORED MEMORY SCRIPT [MEMORY-AFTER]";
+static const char usage[] = "usage: fram_script (chip|board) PART STORED MEMORY SCRIPT [MEMORY-AFTER]\n"
+                            "       fram_script dump MEMORY SCRIPT";
 
-/* A kind of step: the run that knows it, the bytes behind its kind byte, and its answer when it is not refused. */
+struct run_name {
+    const char *name;
+    enum run run;
+};
+
+static const struct run_name run_names[] = {
+    {"chip", RUN_CHIP},
+    {"board", RUN_BOARD},
+    {"dump", RUN_DUMP},
+};
+
+/* A kind of step: the runs that know it, the bytes behind its kind byte, and its answer when it is not refused. */
 struct shape {
     enum kind kind;
-    enum run run;
+    unsigned runs;
     size_t body;
     enum answer_code answer;
     size_t answer_body;
@@ -96,9 +109,9 @@ struct shape {
 static const struct shape shapes[] = {
     {KIND_SAMPLE, RUN_CHIP, SAMPLE_BYTES, ANSWER_SO, LEVEL_BYTES},
     {KIND_POWER_CYCLE, RUN_CHIP, 0, ANSWER_POWER_CYCLE, 0},
-    {KIND_SIZE, RUN_BOARD, 0, ANSWER_SIZE, NUMBER_BYTES},
+    {KIND_SIZE, RUN_BOARD | RUN_DUMP, 0, ANSWER_SIZE, NUMBER_BYTES},
     {KIND_FENCE, RUN_BOARD, START_BYTES, ANSWER_FENCE, NUMBER_BYTES},
-    {KIND_READ_EIGHT, RUN_BOARD, START_BYTES, ANSWER_CELLS, EIGHT_CELLS},
+    {KIND_READ_EIGHT, RUN_BOARD | RUN_DUMP, START_BYTES, ANSWER_CELLS, EIGHT_CELLS},
     {KIND_WRITE_EIGHT, RUN_BOARD, START_BYTES + EIGHT_CELLS, ANSWER_WRITTEN, 0},
     {KIND_WRITE_ONE, RUN_BOARD, START_BYTES + ONE_CELL, ANSWER_WRITTEN, 0},
 };
@@ -123,7 +136,7 @@ static const struct part parts[] = {
     {"MB85RS256B", {.t = 0x05, .f = 0x09, .drop = true, .fast = true}},
 };
 
-/* What the arguments ask for. */
+/* What the arguments ask for. A dump has no chip, no stored bits and no memory afterwards. */
 struct order {
     enum run run;
     struct chip chip;
@@ -162,6 +175,12 @@ struct answer {
 static const char *reason(void)
 {
     return errno != 0 ? strerror(errno) : "no reason given";
+}
+
+static enum status bad_usage(void)
+{
+    (void)fprintf(stderr, "%s\n", usage);
+    return STATUS_BAD_CALL;
 }
 
 static enum status bad_call(const char *what, const char *which)
@@ -270,26 +289,21 @@ static bool parse_part(const char *text, struct chip *chip)
 
 static bool parse_run(const char *text, enum run *run)
 {
-    if (strcmp(text, "chip") == 0) {
-        *run = RUN_CHIP;
-        return true;
-    }
-    if (strcmp(text, "board") == 0) {
-        *run = RUN_BOARD;
-        return true;
+    for (size_t i = 0; i < sizeof run_names / sizeof run_names[0]; i++) {
+        if (strcmp(text, run_names[i].name) == 0) {
+            *run = run_names[i].run;
+            return true;
+        }
     }
     return false;
 }
 
-static enum status parse_order(int argc, char **argv, struct order *order)
+/* The arguments behind `chip` or `board`. */
+static enum status parse_chip_order(int argc, char **argv, struct order *order)
 {
-    enum { RUN = 1, PART, STORED, MEMORY, SCRIPT, AFTER };
+    enum { PART = 2, STORED, MEMORY, SCRIPT, AFTER };
     if (argc <= SCRIPT || argc > AFTER + 1) {
-        (void)fprintf(stderr, "%s\n", usage);
-        return STATUS_BAD_CALL;
-    }
-    if (!parse_run(argv[RUN], &order->run)) {
-        return bad_call("the run must be chip or board", argv[RUN]);
+        return bad_usage();
     }
     if (!parse_part(argv[PART], &order->chip)) {
         return bad_call("PART must be MB85RS64VY, MB85RS128TY, MB85RS256B, or t,f,MARKS as in 23,02,s", argv[PART]);
@@ -301,6 +315,30 @@ static enum status parse_order(int argc, char **argv, struct order *order)
     order->script_name = argv[SCRIPT];
     order->after_name = argc > AFTER ? argv[AFTER] : NULL;
     return STATUS_RAN;
+}
+
+/* The arguments behind `dump`. */
+static enum status parse_dump_order(int argc, char **argv, struct order *order)
+{
+    enum { MEMORY = 2, SCRIPT };
+    if (argc != SCRIPT + 1) {
+        return bad_usage();
+    }
+    order->memory_name = argv[MEMORY];
+    order->script_name = argv[SCRIPT];
+    return STATUS_RAN;
+}
+
+static enum status parse_order(int argc, char **argv, struct order *order)
+{
+    enum { RUN = 1 };
+    if (argc <= RUN) {
+        return bad_usage();
+    }
+    if (!parse_run(argv[RUN], &order->run)) {
+        return bad_call("the run must be chip, board or dump", argv[RUN]);
+    }
+    return order->run == RUN_DUMP ? parse_dump_order(argc, argv, order) : parse_chip_order(argc, argv, order);
 }
 
 /* ---- files ---- */
@@ -412,7 +450,7 @@ static uint32_t number_in(const uint8_t bytes[NUMBER_BYTES])
 static const struct shape *find_shape(enum run run, uint8_t kind)
 {
     for (size_t i = 0; i < sizeof shapes / sizeof shapes[0]; i++) {
-        if (shapes[i].run == run && shapes[i].kind == kind) {
+        if ((shapes[i].runs & (unsigned)run) != 0 && shapes[i].kind == kind) {
             return &shapes[i];
         }
     }
@@ -488,16 +526,17 @@ static const char *step_refusal_words(uint8_t number)
     }
 }
 
-/* NULL where no run is refused by this number. */
-static const char *run_refusal_words(uint32_t number)
+/* NULL where such a run is not refused by this number. */
+static const char *run_refusal_words(enum run run, uint32_t number)
 {
     switch (number) {
     case FRAM_NO_SHEET:
-        return "no sheet: d, the low five bits of t, is not from 1 to 5";
+        return run != RUN_DUMP ? "no sheet: d, the low five bits of t, is not from 1 to 5" : NULL;
     case FRAM_MEMORY_LENGTH:
-        return "the memory has not exactly 2^(10 + d) bytes";
+        return run != RUN_DUMP ? "the memory has not exactly 2^(10 + d) bytes" : NULL;
     case FRAM_UNKNOWN_KIND:
-        return "the kind of a step is not known to this run";
+        return run != RUN_DUMP ? "the kind of a step is not known to this run"
+                               : "a dump has steps of size and of reading eight cells alone";
     case FRAM_SHORT_STEP:
         return "the script ends inside a step";
     case FRAM_SHORT_BUFFER:
@@ -630,11 +669,11 @@ static enum status bad_step(uint64_t number, const char *what)
 }
 
 /* A run that was refused: its number and words, and for 8 and 9 the place of the kind byte. */
-static enum status tell_refusal(const fram_report *report, size_t script_length)
+static enum status tell_refusal(enum run run, size_t script_length, const fram_report *report)
 {
-    const char *words = run_refusal_words(report->refusal);
+    const char *words = run_refusal_words(run, report->refusal);
     if (words == NULL) {
-        return bad_report("no run is refused by this number");
+        return bad_report("no such run is refused by this number");
     }
     if (report->refusal != FRAM_UNKNOWN_KIND && report->refusal != FRAM_SHORT_STEP) {
         (void)fprintf(stderr, "refused by %" PRIu32 ": %s\n", report->refusal, words);
@@ -658,12 +697,39 @@ static void tell_line(uint64_t number, const struct step *step, const struct ans
     (void)printf("step %4" PRIu64 "  place %5zu  %-42s  %s\n", number, step->place, step_text, answer_text);
 }
 
-static void tell_end(const fram_report *report)
+static void tell_stored(uint8_t stored)
 {
-    uint8_t stored = report->stored;
-    (void)printf("steps %" PRIu64 ", answer bytes %" PRIu64 ", stored bits %02X: WPEN %u BP1 %u BP0 %u\n", report->steps,
-                 report->answer_bytes, (unsigned)stored, is_set(stored, STORED_WPEN), is_set(stored, STORED_BP1),
-                 is_set(stored, STORED_BP0));
+    (void)printf("stored bits %02X: WPEN %u BP1 %u BP0 %u\n", (unsigned)stored, is_set(stored, STORED_WPEN),
+                 is_set(stored, STORED_BP1), is_set(stored, STORED_BP0));
+}
+
+/* How many cells the dump in a file of this length has, and how many bytes of the file are none. */
+static void tell_dump(size_t length)
+{
+    if (length == 0) {
+        (void)printf("cells of the dump 0: the file is empty\n");
+    } else if (length <= FRAM_MOST_CELLS) {
+        (void)printf("cells of the dump %zu\n", length);
+    } else {
+        (void)printf("cells of the dump %d; further bytes of the file, which are no cells, %zu\n", FRAM_MOST_CELLS,
+                     length - FRAM_MOST_CELLS);
+    }
+}
+
+/* The last line: what was run, and the stored bits afterwards, or what the dump is. All lines must have been written. */
+static enum status tell_end(enum run run, size_t memory_length, const fram_report *report)
+{
+    (void)printf("steps %" PRIu64 ", answer bytes %" PRIu64 ", ", report->steps, report->answer_bytes);
+    if (run == RUN_DUMP) {
+        tell_dump(memory_length);
+    } else {
+        tell_stored(report->stored);
+    }
+    if (fflush(stdout) != 0 || ferror(stdout) != 0) {
+        (void)bad_file("write", "standard output");
+        return STATUS_BAD_CALL;
+    }
+    return STATUS_RAN;
 }
 
 /* A run that was not refused: every step with its answer. All steps and all answer bytes must have been told at the end. */
@@ -694,16 +760,12 @@ static enum status tell_steps(enum run run, const struct buffer *script, const s
     if (replies.left > 0) {
         return bad_report("more answer bytes than the steps have");
     }
-    tell_end(report);
-    if (fflush(stdout) != 0 || ferror(stdout) != 0) {
-        (void)bad_file("write", "standard output");
-        return STATUS_BAD_CALL;
-    }
     return STATUS_RAN;
 }
 
 /* ---- the run ---- */
 
+/* The chip run or the board run. */
 typedef fram_report run_function(uint8_t t, uint8_t f, uint8_t drop, uint8_t sleep, uint8_t fast, uint8_t stored,
                                  uint8_t *memory, size_t memory_len, const uint8_t *script, size_t script_len,
                                  uint8_t *answers, size_t answers_len);
@@ -711,6 +773,9 @@ typedef fram_report run_function(uint8_t t, uint8_t f, uint8_t drop, uint8_t sle
 static fram_report run_script(const struct order *order, struct buffer *memory, const struct buffer *script,
                               struct buffer *answers)
 {
+    if (order->run == RUN_DUMP) {
+        return fram_dump_run(memory->bytes, memory->length, script->bytes, script->length, answers->bytes, answers->length);
+    }
     const struct chip *chip = &order->chip;
     run_function *run = order->run == RUN_CHIP ? fram_chip_run : fram_board_run;
     return run(chip->t, chip->f, chip->drop, chip->sleep, chip->fast, order->stored, memory->bytes, memory->length,
@@ -728,9 +793,12 @@ static enum status carry_out(const struct order *order, struct buffer *memory, s
     }
     fram_report report = run_script(order, memory, script, answers);
     if (report.refusal != 0) {
-        return tell_refusal(&report, script->length);
+        return tell_refusal(order->run, script->length, &report);
     }
     enum status status = tell_steps(order->run, script, answers, &report);
+    if (status == STATUS_RAN) {
+        status = tell_end(order->run, memory->length, &report);
+    }
     if (status == STATUS_RAN && order->after_name != NULL && !write_file(order->after_name, memory)) {
         return STATUS_BAD_CALL;
     }

@@ -6,15 +6,18 @@ use crate::sheet::Stored;
 /// A board has at most so many cells.
 pub const MOST_CELLS: usize = 1 << 20;
 
-/// The calls of a board. Size, fence question, read and every refused call leave the image as it is.
-pub trait Board {
+/// The calls of a board that is only read. They leave the image as it is.
+pub trait ReadBoard {
     fn size(&mut self) -> usize;
-
-    /// The first fenced place among so many from the start on.
-    fn first_fence(&mut self, start: usize, count: usize) -> Result<Option<usize>, Refusal>;
 
     /// As many cells from the start on as the buffer has room for. A refused read leaves the buffer.
     fn read(&mut self, start: usize, buffer: &mut [u8]) -> Result<(), Refusal>;
+}
+
+/// The calls of a board besides those. The fence question and every refused call leave the image as it is.
+pub trait Board: ReadBoard {
+    /// The first fenced place among so many from the start on.
+    fn first_fence(&mut self, start: usize, count: usize) -> Result<Option<usize>, Refusal>;
 
     /// Puts all of the bytes into the cells from the start on, or none.
     fn write(&mut self, start: usize, bytes: &[u8]) -> Result<(), Refusal>;
@@ -33,6 +36,13 @@ fn check_free(fence: Option<usize>) -> Result<(), Refusal> {
         None => Ok(()),
         Some(_) => Err(Refusal::Fenced),
     }
+}
+
+/// Reads bytes that are all cells.
+fn read_bytes(cells: &[u8], start: usize, buffer: &mut [u8]) -> Result<(), Refusal> {
+    check_range(cells.len(), start, buffer.len())?;
+    buffer.copy_from_slice(&cells[start..start + buffer.len()]);
+    Ok(())
 }
 
 /// The first place that is in both of two ranges, each from a start up to an end.
@@ -69,14 +79,9 @@ impl Cells {
     }
 }
 
-impl Board for Cells {
+impl ReadBoard for Cells {
     fn size(&mut self) -> usize {
         self.0.len()
-    }
-
-    fn first_fence(&mut self, start: usize, count: usize) -> Result<Option<usize>, Refusal> {
-        check_range(self.size(), start, count)?;
-        Ok((start..start + count).find(|&place| self.0[place].fenced))
     }
 
     fn read(&mut self, start: usize, buffer: &mut [u8]) -> Result<(), Refusal> {
@@ -85,6 +90,13 @@ impl Board for Cells {
             *byte = cell.byte;
         }
         Ok(())
+    }
+}
+
+impl Board for Cells {
+    fn first_fence(&mut self, start: usize, count: usize) -> Result<Option<usize>, Refusal> {
+        check_range(self.size(), start, count)?;
+        Ok((start..start + count).find(|&place| self.0[place].fenced))
     }
 
     fn write(&mut self, start: usize, bytes: &[u8]) -> Result<(), Refusal> {
@@ -111,20 +123,20 @@ impl<'m> ChipImage<'m> {
     }
 }
 
-impl Board for ChipImage<'_> {
+impl ReadBoard for ChipImage<'_> {
     fn size(&mut self) -> usize {
         self.memory.len()
     }
 
+    fn read(&mut self, start: usize, buffer: &mut [u8]) -> Result<(), Refusal> {
+        read_bytes(self.memory, start, buffer)
+    }
+}
+
+impl Board for ChipImage<'_> {
     fn first_fence(&mut self, start: usize, count: usize) -> Result<Option<usize>, Refusal> {
         check_range(self.size(), start, count)?;
         Ok(first_common((start, start + count), (self.first_protected, self.memory.len())))
-    }
-
-    fn read(&mut self, start: usize, buffer: &mut [u8]) -> Result<(), Refusal> {
-        check_range(self.size(), start, buffer.len())?;
-        buffer.copy_from_slice(&self.memory[start..start + buffer.len()]);
-        Ok(())
     }
 
     fn write(&mut self, start: usize, bytes: &[u8]) -> Result<(), Refusal> {
@@ -145,25 +157,45 @@ impl<'m> Memory<'m> {
     }
 }
 
-impl Board for Memory<'_> {
+impl ReadBoard for Memory<'_> {
     fn size(&mut self) -> usize {
         self.0.len()
     }
 
+    fn read(&mut self, start: usize, buffer: &mut [u8]) -> Result<(), Refusal> {
+        read_bytes(self.0, start, buffer)
+    }
+}
+
+impl Board for Memory<'_> {
     fn first_fence(&mut self, start: usize, count: usize) -> Result<Option<usize>, Refusal> {
         check_range(self.size(), start, count).map(|()| None)
-    }
-
-    fn read(&mut self, start: usize, buffer: &mut [u8]) -> Result<(), Refusal> {
-        check_range(self.size(), start, buffer.len())?;
-        buffer.copy_from_slice(&self.0[start..start + buffer.len()]);
-        Ok(())
     }
 
     fn write(&mut self, start: usize, bytes: &[u8]) -> Result<(), Refusal> {
         check_range(self.size(), start, bytes.len())?;
         self.0[start..start + bytes.len()].copy_from_slice(bytes);
         Ok(())
+    }
+}
+
+/// A dump: the first 1,048,576 bytes of memory that nobody may write.
+#[derive(Debug)]
+pub struct Dump<'m>(&'m [u8]);
+
+impl<'m> Dump<'m> {
+    pub fn new(memory: &'m [u8]) -> Self {
+        Dump(&memory[..memory.len().min(MOST_CELLS)])
+    }
+}
+
+impl ReadBoard for Dump<'_> {
+    fn size(&mut self) -> usize {
+        self.0.len()
+    }
+
+    fn read(&mut self, start: usize, buffer: &mut [u8]) -> Result<(), Refusal> {
+        read_bytes(self.0, start, buffer)
     }
 }
 
@@ -175,7 +207,7 @@ pub struct Window<B> {
     length: usize,
 }
 
-impl<B: Board> Window<B> {
+impl<B: ReadBoard> Window<B> {
     pub fn new(below: B, offset: usize, length: usize) -> Self {
         Window { below, offset, length }
     }
@@ -188,19 +220,21 @@ impl<B: Board> Window<B> {
     }
 }
 
-impl<B: Board> Board for Window<B> {
+impl<B: ReadBoard> ReadBoard for Window<B> {
     fn size(&mut self) -> usize {
         self.below.size().saturating_sub(self.offset).min(self.length)
-    }
-
-    fn first_fence(&mut self, start: usize, count: usize) -> Result<Option<usize>, Refusal> {
-        let below = self.start_below(start, count)?;
-        Ok(self.below.first_fence(below, count)?.map(|place| place - below + start))
     }
 
     fn read(&mut self, start: usize, buffer: &mut [u8]) -> Result<(), Refusal> {
         let below = self.start_below(start, buffer.len())?;
         self.below.read(below, buffer)
+    }
+}
+
+impl<B: Board> Board for Window<B> {
+    fn first_fence(&mut self, start: usize, count: usize) -> Result<Option<usize>, Refusal> {
+        let below = self.start_below(start, count)?;
+        Ok(self.below.first_fence(below, count)?.map(|place| place - below + start))
     }
 
     fn write(&mut self, start: usize, bytes: &[u8]) -> Result<(), Refusal> {
@@ -222,7 +256,7 @@ struct Parts {
     second: (usize, usize),
 }
 
-impl<A: Board, B: Board> Join<A, B> {
+impl<A: ReadBoard, B: ReadBoard> Join<A, B> {
     pub fn new(first: A, second: B) -> Self {
         Join { first, second }
     }
@@ -235,18 +269,9 @@ impl<A: Board, B: Board> Join<A, B> {
     }
 }
 
-impl<A: Board, B: Board> Board for Join<A, B> {
+impl<A: ReadBoard, B: ReadBoard> ReadBoard for Join<A, B> {
     fn size(&mut self) -> usize {
         (self.first.size() + self.second.size()).min(MOST_CELLS)
-    }
-
-    fn first_fence(&mut self, start: usize, count: usize) -> Result<Option<usize>, Refusal> {
-        let parts = self.parts(start, count)?;
-        if let Some(place) = self.first.first_fence(parts.first.0, parts.first.1)? {
-            return Ok(Some(place));
-        }
-        let seam = self.first.size();
-        Ok(self.second.first_fence(parts.second.0, parts.second.1)?.map(|place| seam + place))
     }
 
     fn read(&mut self, start: usize, buffer: &mut [u8]) -> Result<(), Refusal> {
@@ -254,6 +279,17 @@ impl<A: Board, B: Board> Board for Join<A, B> {
         let (first, second) = buffer.split_at_mut(parts.first.1);
         self.first.read(parts.first.0, first)?;
         self.second.read(parts.second.0, second)
+    }
+}
+
+impl<A: Board, B: Board> Board for Join<A, B> {
+    fn first_fence(&mut self, start: usize, count: usize) -> Result<Option<usize>, Refusal> {
+        let parts = self.parts(start, count)?;
+        if let Some(place) = self.first.first_fence(parts.first.0, parts.first.1)? {
+            return Ok(Some(place));
+        }
+        let seam = self.first.size();
+        Ok(self.second.first_fence(parts.second.0, parts.second.1)?.map(|place| seam + place))
     }
 
     /// A write over the seam puts all its bytes or none, also where only one side is fenced.
@@ -303,11 +339,17 @@ impl<B: Board> Shield<B> {
     }
 }
 
-impl<B: Board> Board for Shield<B> {
+impl<B: ReadBoard> ReadBoard for Shield<B> {
     fn size(&mut self) -> usize {
         self.below.size()
     }
 
+    fn read(&mut self, start: usize, buffer: &mut [u8]) -> Result<(), Refusal> {
+        self.below.read(start, buffer)
+    }
+}
+
+impl<B: Board> Board for Shield<B> {
     fn first_fence(&mut self, start: usize, count: usize) -> Result<Option<usize>, Refusal> {
         let below = self.below.first_fence(start, count)?;
         let shielded = |range: &ShieldRange| {
@@ -316,27 +358,25 @@ impl<B: Board> Board for Shield<B> {
         Ok(self.ranges.iter().filter_map(shielded).chain(below).min())
     }
 
-    fn read(&mut self, start: usize, buffer: &mut [u8]) -> Result<(), Refusal> {
-        self.below.read(start, buffer)
-    }
-
     fn write(&mut self, start: usize, bytes: &[u8]) -> Result<(), Refusal> {
         check_free(self.first_fence(start, bytes.len())?)?;
         self.below.write(start, bytes)
     }
 }
 
-impl<B: Board + ?Sized> Board for Box<B> {
+impl<B: ReadBoard + ?Sized> ReadBoard for Box<B> {
     fn size(&mut self) -> usize {
         (**self).size()
     }
 
-    fn first_fence(&mut self, start: usize, count: usize) -> Result<Option<usize>, Refusal> {
-        (**self).first_fence(start, count)
-    }
-
     fn read(&mut self, start: usize, buffer: &mut [u8]) -> Result<(), Refusal> {
         (**self).read(start, buffer)
+    }
+}
+
+impl<B: Board + ?Sized> Board for Box<B> {
+    fn first_fence(&mut self, start: usize, count: usize) -> Result<Option<usize>, Refusal> {
+        (**self).first_fence(start, count)
     }
 
     fn write(&mut self, start: usize, bytes: &[u8]) -> Result<(), Refusal> {

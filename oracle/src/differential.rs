@@ -4,10 +4,11 @@ use std::fmt;
 use std::ops::Range;
 use std::time::{Duration, Instant};
 
+use crate::board::MOST_CELLS;
 use crate::chip::{Chip, Session};
 use crate::generate::{Case, Run, case};
 use crate::rng::Rng;
-use crate::script::{Report, board_run, watched_chip_run};
+use crate::script::{Report, board_run, dump_run, watched_chip_run};
 use crate::sheet::Stored;
 
 /// The seed of the test run.
@@ -41,6 +42,7 @@ impl Model {
         let report = match case.run {
             Run::Chip => watched_chip_run(&case.numbers, &mut memory, &case.script, &mut answers, watch),
             Run::Board => board_run(&case.numbers, &mut memory, &case.script, &mut answers),
+            Run::Dump => dump_run(&memory, &case.script, &mut answers),
         };
         Outcome { report, memory, answers }
     }
@@ -50,6 +52,18 @@ impl Subject for Model {
     fn run(&mut self, case: &Case) -> Result<Outcome, String> {
         Ok(Self::outcome(case))
     }
+}
+
+/// What the model does in a case, which the library does too, where it is linked.
+///
+/// # Panics
+///
+/// Where the library does something else.
+pub fn agreed(case: &Case) -> Outcome {
+    let outcome = Model::outcome(case);
+    #[cfg(feature = "library")]
+    assert_eq!(crate::ffi::call(case).as_ref(), Ok(&outcome), "the library differs on {case:?}");
+    outcome
 }
 
 /// Where two buffers differ first.
@@ -184,15 +198,33 @@ pub fn soak(seed: u64, first: u64, scripts: u64, subject: &mut impl Subject) -> 
 pub struct Counts {
     chip: RunCounts,
     board: RunCounts,
+    dump: RunCounts,
     /// SO low, high and high-Z.
     so: [u64; 3],
     cycles: u64,
-    sizes: u64,
     fences: u64,
     no_fences: u64,
-    reads: u64,
     writes: u64,
     acts: Acts,
+    dumps: Dumps,
+}
+
+/// The dumps by their length: none, too short for a read, as many cells as there may be, and more bytes than that.
+#[derive(Clone, Debug, Default)]
+struct Dumps {
+    empty: u64,
+    short: u64,
+    most: u64,
+    longer: u64,
+}
+
+impl Dumps {
+    fn add(&mut self, length: usize) {
+        self.empty += u64::from(length == 0);
+        self.short += u64::from((1..8).contains(&length));
+        self.most += u64::from(length == MOST_CELLS);
+        self.longer += u64::from(length > MOST_CELLS);
+    }
 }
 
 /// What chips did in the chip runs.
@@ -242,6 +274,8 @@ struct RunCounts {
     /// By the number of the refusal; 0 for the runs that were not refused.
     refusals: [u64; 11],
     step_refusals: [u64; 11],
+    sizes: u64,
+    reads: u64,
     /// Runs that changed memory, and the bytes that they changed.
     memory_changed: u64,
     memory_bytes: u64,
@@ -251,8 +285,20 @@ impl Counts {
     fn add(&mut self, case: &Case, outcome: &Outcome) {
         let Outcome { report, memory, answers } = outcome;
         let changed = case.memory.iter().zip(memory).filter(|(before, after)| before != after).count() as u64;
+        let run = match case.run {
+            Run::Chip => &mut self.chip,
+            Run::Board => &mut self.board,
+            Run::Dump => {
+                self.dumps.add(case.memory.len());
+                &mut self.dump
+            }
+        };
+        run.scripts += 1;
+        run.steps += report.steps;
+        run.refusals[report.refusal as usize] += 1;
+        run.memory_changed += u64::from(changed > 0);
+        run.memory_bytes += changed;
         let mut rest = &answers[..report.answer_bytes as usize];
-        let mut step_refusals = [0; 11];
         while let [code, body @ ..] = rest {
             let length = match *code {
                 0x81 => {
@@ -264,7 +310,7 @@ impl Counts {
                     0
                 }
                 0x83 => {
-                    self.sizes += 1;
+                    run.sizes += 1;
                     3
                 }
                 0x84 if body[..3] == [0xFF; 3] => {
@@ -276,7 +322,7 @@ impl Counts {
                     3
                 }
                 0x85 => {
-                    self.reads += 1;
+                    run.reads += 1;
                     8
                 }
                 0x86 => {
@@ -284,28 +330,16 @@ impl Counts {
                     0
                 }
                 _ => {
-                    step_refusals[usize::from(body[0])] += 1;
+                    run.step_refusals[usize::from(body[0])] += 1;
                     1
                 }
             };
             rest = &body[length..];
         }
-        let run = match case.run {
-            Run::Chip => &mut self.chip,
-            Run::Board => &mut self.board,
-        };
-        run.scripts += 1;
-        run.steps += report.steps;
-        run.refusals[report.refusal as usize] += 1;
-        run.memory_changed += u64::from(changed > 0);
-        run.memory_bytes += changed;
-        for (sum, count) in run.step_refusals.iter_mut().zip(step_refusals) {
-            *sum += count;
-        }
     }
 
     pub fn scripts(&self) -> u64 {
-        self.chip.scripts + self.board.scripts
+        self.chip.scripts + self.board.scripts + self.dump.scripts
     }
 
     /// Every class with its count, and in how many of 100,000 scripts it is to be reached at least.
@@ -337,13 +371,25 @@ impl Counts {
         class("81h, SO high-Z", self.so[2], 1_000_000);
         class("82h", self.cycles, 5000);
         class("7Fh 03h", self.chip.step_refusals[3], 5000);
-        class("83h", self.sizes, 25_000);
+        class("83h", self.board.sizes, 25_000);
         class("84h, a place", self.fences, 10_000);
         class("84h, none", self.no_fences, 10_000);
-        class("85h", self.reads, 25_000);
+        class("85h", self.board.reads, 25_000);
         class("86h", self.writes, 25_000);
         class("7Fh 04h", self.board.step_refusals[4], 25_000);
         class("7Fh 05h", self.board.step_refusals[5], 10_000);
+        class("dump run: scripts", self.dump.scripts, 15_000);
+        class("dump run: not refused", self.dump.refusals[0], 10_000);
+        class("dump run: refused by 8", self.dump.refusals[8], 500);
+        class("dump run: refused by 9", self.dump.refusals[9], 200);
+        class("dump run: refused by 10", self.dump.refusals[10], 500);
+        class("dump run: 83h", self.dump.sizes, 25_000);
+        class("dump run: 85h", self.dump.reads, 25_000);
+        class("dump run: 7Fh 04h", self.dump.step_refusals[4], 25_000);
+        class("dumps of no cells", self.dumps.empty, 500);
+        class("dumps of 1 to 7 cells", self.dumps.short, 500);
+        class("dumps of 1,048,576 cells", self.dumps.most, 15);
+        class("dumps of more bytes than cells", self.dumps.longer, 30);
         classes
     }
 

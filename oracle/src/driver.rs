@@ -1,6 +1,6 @@
 //! A driver makes a board of any bus. It holds no cells: each call reads the chip anew.
 
-use crate::board::{Board, check_range};
+use crate::board::{Board, ReadBoard, check_range};
 use crate::bus::Bus;
 use crate::refusal::Refusal;
 use crate::sheet::{self, Stored};
@@ -81,15 +81,9 @@ impl<B: Bus> Driver<B> {
     }
 }
 
-impl<B: Bus> Board for Driver<B> {
+impl<B: Bus> ReadBoard for Driver<B> {
     fn size(&mut self) -> usize {
         self.open().map_or(0, sheet::cells)
-    }
-
-    fn first_fence(&mut self, start: usize, count: usize) -> Result<Option<usize>, Refusal> {
-        let size = self.size();
-        check_range(size, start, count)?;
-        Ok(if count == 0 { None } else { self.fence(size, start, count) })
     }
 
     /// One READ session.
@@ -100,6 +94,14 @@ impl<B: Bus> Board for Driver<B> {
             self.session(&Self::at(READ, start), buffer);
         }
         Ok(())
+    }
+}
+
+impl<B: Bus> Board for Driver<B> {
+    fn first_fence(&mut self, start: usize, count: usize) -> Result<Option<usize>, Refusal> {
+        let size = self.size();
+        check_range(size, start, count)?;
+        Ok(if count == 0 { None } else { self.fence(size, start, count) })
     }
 
     /// One WRITE session, between one of WREN and one of WRDI.

@@ -1,10 +1,10 @@
-//! The library through its C interface: its two runs, its transfers and its read of plain memory, each buffer
-//! between pages that cannot be touched.
+//! The library through its C interface: its three runs, its transfers and its read of plain memory, each buffer
+//! between pages that cannot be touched, and in pages that cannot be written where it is only to be read.
 
 use crate::bus::Mode;
 use crate::differential::{Outcome, Subject};
 use crate::generate::{Case, Run};
-use crate::guarded::{Guarded, Side};
+use crate::guarded::{Guarded, ReadOnly, Side};
 use crate::script::{Numbers, Report};
 use crate::transfer::{Order, Transfer, Way};
 
@@ -18,7 +18,19 @@ struct FramReport {
     stored: u8,
 }
 
-/// The type of both runs.
+impl From<FramReport> for Report {
+    fn from(report: FramReport) -> Self {
+        Report {
+            refusal: report.refusal,
+            place: report.place,
+            steps: report.steps,
+            answer_bytes: report.answer_bytes,
+            stored: report.stored,
+        }
+    }
+}
+
+/// The type of the runs on a chip.
 type FramRun = unsafe extern "C" fn(
     t: u8,
     f: u8,
@@ -58,6 +70,15 @@ unsafe extern "C" {
         fast: u8,
         stored: u8,
         memory: *mut u8,
+        memory_len: usize,
+        script: *const u8,
+        script_len: usize,
+        answers: *mut u8,
+        answers_len: usize,
+    ) -> FramReport;
+
+    fn fram_dump_run(
+        memory: *const u8,
         memory_len: usize,
         script: *const u8,
         script_len: usize,
@@ -104,6 +125,7 @@ pub fn run(run: Run, numbers: &Numbers, memory: &mut [u8], script: &[u8], answer
     let run: FramRun = match run {
         Run::Chip => fram_chip_run,
         Run::Board => fram_board_run,
+        Run::Dump => return dump_run(memory, script, answers),
     };
     let n = numbers;
     // SAFETY: slices are good for their lengths, not NULL, and apart from each other.
@@ -123,13 +145,16 @@ pub fn run(run: Run, numbers: &Numbers, memory: &mut [u8], script: &[u8], answer
             answers.len(),
         )
     };
-    Report {
-        refusal: report.refusal,
-        place: report.place,
-        steps: report.steps,
-        answer_bytes: report.answer_bytes,
-        stored: report.stored,
-    }
+    report.into()
+}
+
+/// Calls the library's dump run on these very buffers.
+pub fn dump_run(memory: &[u8], script: &[u8], answers: &mut [u8]) -> Report {
+    // SAFETY: slices are good for their lengths and not NULL, and the answers are apart from the others.
+    let report = unsafe {
+        fram_dump_run(memory.as_ptr(), memory.len(), script.as_ptr(), script.len(), answers.as_mut_ptr(), answers.len())
+    };
+    report.into()
 }
 
 /// On which side buffers lie against a page: now the one, now the other.
@@ -140,17 +165,23 @@ fn side(length: usize) -> Side {
 /// Carries out a case between guards, which must stay as they are.
 pub fn call(case: &Case) -> Result<Outcome, String> {
     let side = side(case.script.len());
-    let mut between = [&case.memory, &case.script, &case.answers].map(|content| Guarded::new(content, side));
-    let [memory, script, answers] = &mut between;
-    let report = run(case.run, &case.numbers, memory.content_mut(), script.content(), answers.content_mut());
-    for (guarded, name) in between.iter().zip(["memory", "script", "answers"]) {
-        guarded.check(name)?;
-    }
-    let [memory, script, answers] = &between;
-    if script.content() != case.script {
-        return Err("the script was changed".to_string());
-    }
-    Ok(Outcome { report, memory: memory.content().to_vec(), answers: answers.content().to_vec() })
+    let script = ReadOnly::new(&case.script, side);
+    let mut answers = Guarded::new(&case.answers, side);
+    let (report, memory) = match case.run {
+        Run::Chip | Run::Board => {
+            let mut memory = Guarded::new(&case.memory, side);
+            let report = run(case.run, &case.numbers, memory.content_mut(), script.content(), answers.content_mut());
+            memory.check("memory")?;
+            (report, memory.content().to_vec())
+        }
+        Run::Dump => {
+            let memory = ReadOnly::new(&case.memory, side);
+            let report = dump_run(memory.content(), script.content(), answers.content_mut());
+            (report, memory.content().to_vec())
+        }
+    };
+    answers.check("answers")?;
+    Ok(Outcome { report, memory, answers: answers.content().to_vec() })
 }
 
 /// The codes of a way: the bus, and the held samples of a line.
@@ -200,17 +231,15 @@ pub fn guarded_transfer(
     buffer: &mut [u8],
 ) -> Result<Transfer, String> {
     let side = side(order.bytes.len() + buffer.len());
-    let mut between = [&*memory, order.before, order.bytes, &*buffer].map(|content| Guarded::new(content, side));
-    let [m, before, bytes, b] = &mut between;
+    let [before, bytes] = [order.before, order.bytes].map(|content| ReadOnly::new(content, side));
+    let mut between = [&*memory, &*buffer].map(|content| Guarded::new(content, side));
+    let [m, b] = &mut between;
     let guarded = Order { before: before.content(), start: order.start, bytes: bytes.content() };
     let done = transfer(numbers, m.content_mut(), way, guarded, b.content_mut());
-    for (guarded, name) in between.iter().zip(["memory", "samples", "bytes", "buffer"]) {
+    for (guarded, name) in between.iter().zip(["memory", "buffer"]) {
         guarded.check(name)?;
     }
-    let [m, before, bytes, b] = &between;
-    if before.content() != order.before || bytes.content() != order.bytes {
-        return Err("what is only read was changed".to_string());
-    }
+    let [m, b] = &between;
     memory.copy_from_slice(m.content());
     buffer.copy_from_slice(b.content());
     Ok(done)

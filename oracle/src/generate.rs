@@ -1,9 +1,10 @@
 //! Makes the cases of the comparison: the numbers and buffers of one call of a run.
 
+use crate::board::MOST_CELLS;
 use crate::bus::Mode;
 use crate::chip::Sample;
 use crate::rng::Rng;
-use crate::script::{BoardStep, ChipStep, Numbers, count_steps};
+use crate::script::{BoardStep, ChipStep, Numbers, ReadStep, count_steps};
 use crate::sheet;
 use crate::transfer::Way;
 
@@ -11,9 +12,10 @@ use crate::transfer::Way;
 pub enum Run {
     Chip,
     Board,
+    Dump,
 }
 
-/// One call of a run; the buffers are as they are before it.
+/// One call of a run; the buffers are as they are before it. A dump run takes no numbers, and those of its case are 0.
 #[derive(Clone, Debug, PartialEq, Eq)]
 pub struct Case {
     pub run: Run,
@@ -28,6 +30,7 @@ pub fn steps_before_fault(run: Run, script: &[u8]) -> usize {
     let count = |script| match run {
         Run::Chip => count_steps::<ChipStep>(script),
         Run::Board => count_steps::<BoardStep>(script),
+        Run::Dump => count_steps::<ReadStep>(script),
     };
     match count(script) {
         Ok(steps) => steps,
@@ -37,12 +40,20 @@ pub fn steps_before_fault(run: Run, script: &[u8]) -> usize {
 
 /// Makes the case of a generator.
 pub fn case(rng: &mut Rng) -> Case {
-    let run = if rng.flip() { Run::Chip } else { Run::Board };
-    let numbers = numbers(rng);
-    let cells = sheet::density(numbers.t).map_or(2048, sheet::cells);
+    let run = if rng.below(6) == 0 { Run::Dump } else { rng.pick(&[Run::Chip, Run::Board]) };
+    let (numbers, cells, length) = match run {
+        Run::Chip | Run::Board => {
+            let numbers = numbers(rng);
+            let cells = sheet::density(numbers.t).map_or(2048, sheet::cells);
+            (numbers, cells, memory_length(rng, numbers.t))
+        }
+        Run::Dump => {
+            let length = dump_length(rng);
+            (Numbers::default(), length.min(MOST_CELLS), length)
+        }
+    };
     let script = script(rng, run, cells);
     let steps = steps_before_fault(run, &script);
-    let length = memory_length(rng, numbers.t);
     let memory = content(rng, length);
     let length = answers_length(rng, 9 * steps);
     let answers = content(rng, length);
@@ -170,6 +181,21 @@ fn memory_length(rng: &mut Rng, t: u8) -> usize {
     }
 }
 
+/// Few bytes, as many as a chip has cells, about these, or, seldom since it takes long, about the most cells of a board.
+fn dump_length(rng: &mut Rng) -> usize {
+    match rng.below(1000) {
+        0..=7 => rng.pick(&[MOST_CELLS - 1, MOST_CELLS, MOST_CELLS + 1, MOST_CELLS + 1]),
+        8..=9 => rng.from_to(MOST_CELLS - 20, MOST_CELLS + 5000),
+        10..=109 => 0,
+        110..=209 => rng.from_to(1, 7),
+        210..=309 => rng.from_to(8, 9),
+        310..=499 => rng.from_to(10, 600),
+        500..=699 => sheet::cells(rng.from_to(1, 5) as u8),
+        700..=849 => rng.from_to(8192 - 9, 8192 + 9),
+        _ => rng.below(20_000),
+    }
+}
+
 /// Around the least length that is enough.
 fn answers_length(rng: &mut Rng, enough: usize) -> usize {
     match rng.below(100) {
@@ -191,7 +217,7 @@ fn script(rng: &mut Rng, run: Run, cells: usize) -> Vec<u8> {
     }
     let mut script = match run {
         Run::Chip => chip_script(rng, cells),
-        Run::Board => board_script(rng, cells),
+        Run::Board | Run::Dump => board_script(rng, run, cells),
     };
     if rng.chance(130) {
         damage(rng, &mut script);
@@ -234,9 +260,23 @@ fn damage(rng: &mut Rng, script: &mut Vec<u8>) {
     }
 }
 
-// The board run.
+// The board run and the dump run.
 
-fn board_script(rng: &mut Rng, size: usize) -> Vec<u8> {
+/// A kind that the run knows; in a dump run now and then one that it does not.
+fn board_kind(rng: &mut Rng, run: Run) -> u8 {
+    match (run, rng.below(10)) {
+        (Run::Dump, _) if rng.chance(8) => rng.pick(&[0x01, 0x02, 0x04, 0x06, 0x07]),
+        (Run::Dump, 0..=2) => 0x03,
+        (Run::Dump, _) => 0x05,
+        (_, 0) => 0x03,
+        (_, 1..=2) => 0x04,
+        (_, 3..=5) => 0x05,
+        (_, 6..=7) => 0x06,
+        _ => 0x07,
+    }
+}
+
+fn board_script(rng: &mut Rng, run: Run, size: usize) -> Vec<u8> {
     let steps = match rng.below(100) {
         0..=2 => rng.below(2),
         3..=89 => rng.from_to(1, 24),
@@ -255,18 +295,17 @@ fn board_script(rng: &mut Rng, size: usize) -> Vec<u8> {
             _ => near,
         };
         let start = [(place >> 16) as u8, (place >> 8) as u8, place as u8];
-        match rng.below(10) {
-            0 => script.push(0x03),
-            kind @ 1..=5 => {
-                script.push(if kind < 3 { 0x04 } else { 0x05 });
-                script.extend(start);
-            }
-            kind => {
-                script.push(if kind < 8 { 0x06 } else { 0x07 });
-                script.extend(start);
-                script.extend(rng.bytes(if kind < 8 { 8 } else { 1 }));
-            }
+        let kind = board_kind(rng, run);
+        script.push(kind);
+        if kind > 0x03 {
+            script.extend(start);
         }
+        let bytes = match kind {
+            0x01 | 0x07 => 1,
+            0x06 => 8,
+            _ => 0,
+        };
+        script.extend(rng.bytes(bytes));
     }
     script
 }
@@ -281,10 +320,10 @@ fn start(rng: &mut Rng, size: usize) -> usize {
         11 => edge,
         12 => rng.pick(&[2 * size, 0xFFFF, 0x1_0000, 0x10_0000, 0xFF_FFFF, 0xFF_FFF8, 0xFF_FFF7]),
         13 => rng.next_u64() as usize,
-        // A place in the chip, were the upper byte or the upper bits not looked at.
-        14 => rng.from_to(1, 255) << 16 | rng.below(size),
-        15 => size * rng.from_to(1, 255) + rng.below(size),
-        _ => rng.below(size),
+        // A place in the board, were the upper byte or the upper bits not looked at.
+        14 => rng.from_to(1, 255) << 16 | rng.below(size.max(1)),
+        15 => size * rng.from_to(1, 255) + rng.below(size.max(1)),
+        _ => rng.below(size.max(1)),
     };
     place & 0xFF_FFFF
 }

@@ -1,6 +1,6 @@
 //! A model of the SPI FRAM chips MB85RS64VY, MB85RS128TY and MB85RS256B, of the memory board that a driver makes of
-//! such a chip, and of the two script runs. It was written from the rules alone (`docs/RULES.md`, `docs/FORMATS.md`,
-//! `docs/REFUSALS.md`, `include/fram.h`), apart from the library that it is compared with.
+//! such a chip, of dumps, and of the three script runs. It was written from the rules alone (`docs/RULES.md`,
+//! `docs/FORMATS.md`, `docs/REFUSALS.md`, `include/fram.h`), apart from the library that it is compared with.
 
 pub mod board;
 pub mod bus;

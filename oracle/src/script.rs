@@ -1,8 +1,8 @@
-//! The two script runs. A run reads the whole script, then checks the answer buffer, then carries out all steps.
+//! The three script runs. A run reads the whole script, then checks the answer buffer, then carries out all steps.
 
 use std::marker::PhantomData;
 
-use crate::board::{Board, ChipImage};
+use crate::board::{Board, ChipImage, Dump, ReadBoard};
 use crate::bus::ByteBus;
 use crate::chip::{Chip, Level, ParkedChip};
 use crate::driver::Driver;
@@ -121,34 +121,58 @@ impl Step<'_> for ChipStep {
     }
 }
 
+/// A number, the highest byte first.
+fn number(bytes: &[u8]) -> usize {
+    bytes.iter().fold(0, |number, &byte| number << 8 | usize::from(byte))
+}
+
+/// The steps that only read.
+#[derive(Clone, Copy, Debug, PartialEq, Eq)]
+pub enum ReadStep {
+    Size,
+    Read { start: usize },
+}
+
+impl Step<'_> for ReadStep {
+    fn body_length(kind: u8) -> Option<usize> {
+        match kind {
+            0x03 => Some(0),
+            0x05 => Some(3),
+            _ => None,
+        }
+    }
+
+    fn new(kind: u8, body: &[u8]) -> Self {
+        match kind {
+            0x03 => ReadStep::Size,
+            _ => ReadStep::Read { start: number(body) },
+        }
+    }
+}
+
 /// The data bytes of a write stay a part of the script.
 #[derive(Clone, Copy, Debug, PartialEq, Eq)]
 pub enum BoardStep<'s> {
-    Size,
+    Reading(ReadStep),
     FirstFence { start: usize },
-    Read { start: usize },
     Write { start: usize, bytes: &'s [u8] },
 }
 
 impl<'s> Step<'s> for BoardStep<'s> {
     fn body_length(kind: u8) -> Option<usize> {
         match kind {
-            0x03 => Some(0),
-            0x04 | 0x05 => Some(3),
+            0x04 => Some(3),
             0x06 => Some(11),
             0x07 => Some(4),
-            _ => None,
+            _ => ReadStep::body_length(kind),
         }
     }
 
     fn new(kind: u8, body: &'s [u8]) -> Self {
-        let (start, bytes) = body.split_at(body.len().min(3));
-        let start = start.iter().fold(0, |number, &byte| number << 8 | usize::from(byte));
         match kind {
-            0x03 => BoardStep::Size,
-            0x04 => BoardStep::FirstFence { start },
-            0x05 => BoardStep::Read { start },
-            _ => BoardStep::Write { start, bytes },
+            0x04 => BoardStep::FirstFence { start: number(body) },
+            0x06 | 0x07 => BoardStep::Write { start: number(&body[..3]), bytes: &body[3..] },
+            _ => BoardStep::Reading(ReadStep::new(kind, body)),
         }
     }
 }
@@ -265,15 +289,22 @@ pub fn watched_chip_run(
     report(numbers, run)
 }
 
-/// Carries out one step on any board.
-fn board_step(board: &mut impl Board, step: BoardStep) -> Answer {
+/// Carries out one step that only reads, on any board that can be read.
+fn read_step(board: &mut impl ReadBoard, step: ReadStep) -> Answer {
     match step {
-        BoardStep::Size => Answer::Size(board.size()),
-        BoardStep::FirstFence { start } => Answer::of(board.first_fence(start, 8), Answer::Place),
-        BoardStep::Read { start } => {
+        ReadStep::Size => Answer::Size(board.size()),
+        ReadStep::Read { start } => {
             let mut cells = [0; 8];
             Answer::of(board.read(start, &mut cells), |()| Answer::Cells(cells))
         }
+    }
+}
+
+/// Carries out one step on any board.
+fn board_step(board: &mut impl Board, step: BoardStep) -> Answer {
+    match step {
+        BoardStep::Reading(step) => read_step(board, step),
+        BoardStep::FirstFence { start } => Answer::of(board.first_fence(start, 8), Answer::Place),
         BoardStep::Write { start, bytes } => Answer::of(board.write(start, bytes), |()| Answer::Written),
     }
 }
@@ -296,4 +327,11 @@ pub fn board_run_by_driver(numbers: &Numbers, memory: &mut [u8], script: &[u8], 
         Ok((counts, driver.into_bus().into_chip().power_off().stored()))
     });
     report(numbers, run)
+}
+
+/// The dump run: size and read eight, on memory that is only read. There is no chip, so all its numbers are 0.
+pub fn dump_run(memory: &[u8], script: &[u8], answers: &mut [u8]) -> Report {
+    let mut dump = Dump::new(memory);
+    let run = carry_out(script, answers, |step| read_step(&mut dump, step));
+    report(&Numbers::default(), run.map(|counts| (counts, Stored::new(0))))
 }

@@ -1,6 +1,6 @@
 //! A write and a read from the same start through a driver, over either bus, and a read of plain memory.
 
-use crate::board::{Board, ChipImage, Memory};
+use crate::board::{Board, ChipImage, Memory, ReadBoard};
 use crate::bus::{ByteBus, Line, Mode};
 use crate::chip::{Chip, Sample};
 use crate::driver::Driver;

@@ -1,10 +1,10 @@
 //! Cases worked out by hand. Each is tried on the model, and, with the feature `library`, on the library as well where
 //! its C interface can express it.
 
-use oracle::board::{Board, Cells, ChipImage, Memory, Window};
+use oracle::board::{Board, Cells, ChipImage, Memory, ReadBoard, Window};
 use oracle::bus::ByteBus;
 use oracle::chip::{ParkedChip, Sample};
-use oracle::differential::{Model, Outcome};
+use oracle::differential::{Outcome, agreed};
 use oracle::driver::Driver;
 use oracle::generate::{Case, Run, steps_before_fault};
 use oracle::refusal::Refusal;
@@ -28,18 +28,10 @@ const SLEEP: u8 = 0xB9;
 /// BP1 BP0 = 01: the upper quarter is protected.
 const QUARTER: u8 = 0x04;
 
-/// What the model does in a case, which the library does too.
-fn carry_out(case: &Case) -> Outcome {
-    let outcome = Model::outcome(case);
-    #[cfg(feature = "library")]
-    assert_eq!(oracle::ffi::call(case).as_ref(), Ok(&outcome), "the library differs on {case:?}");
-    outcome
-}
-
 /// A run over a memory of zeros with an answer buffer that is just enough.
 fn run(run: Run, numbers: Numbers, memory: usize, script: &[u8]) -> Outcome {
     let answers = vec![0xEE; 9 * steps_before_fault(run, script)];
-    carry_out(&Case { run, numbers, memory: vec![0; memory], script: script.to_vec(), answers })
+    agreed(&Case { run, numbers, memory: vec![0; memory], script: script.to_vec(), answers })
 }
 
 fn cells(numbers: Numbers) -> usize {
@@ -114,7 +106,7 @@ impl Sessions {
 
     fn run_over(self, numbers: Numbers, memory: Vec<u8>) -> Ran {
         let answers = vec![0; 9 * steps_before_fault(Run::Chip, &self.script)];
-        let outcome = carry_out(&Case { run: Run::Chip, numbers, memory, script: self.script, answers });
+        let outcome = agreed(&Case { run: Run::Chip, numbers, memory, script: self.script, answers });
         assert_eq!(outcome.report.refusal, 0);
         Ran { outcome, rises: self.rises }
     }
@@ -525,7 +517,7 @@ fn the_answer_buffer_is_checked_after_the_script() {
             script: script.to_vec(),
             answers: vec![0xEE; answers],
         };
-        let outcome = carry_out(&case);
+        let outcome = agreed(&case);
         assert_eq!(outcome.report.refusal, refusal);
         assert!(refusal == 0 || outcome.answers.iter().all(|&byte| byte == 0xEE));
     };

@@ -6,7 +6,7 @@ use std::process::ExitCode;
 use oracle::differential::{SEED, soak};
 use oracle::ffi::Library;
 
-const SCRIPTS: u64 = 300_000;
+const SCRIPTS: u64 = 360_000;
 
 fn main() -> ExitCode {
     match soak(SEED, 0, SCRIPTS, &mut Library) {

@@ -1,8 +1,10 @@
 //! The comparison itself: it makes the same cases again, reaches every class, and finds faults of many sorts.
 
+use oracle::board::MOST_CELLS;
 use oracle::differential::{Counts, Model, Outcome, SEED, Subject, compare};
 use oracle::generate::{Case, Run, case};
 use oracle::rng::Rng;
+use oracle::script::Report;
 
 const SCRIPTS: u64 = 20_000;
 
@@ -26,6 +28,13 @@ impl Subject for Faulty {
 fn same_case(_: &mut Case) {}
 
 fn same_outcome(_: &Case, _: &mut Outcome) {}
+
+/// So that a fault which carries out a dump run on another memory is found by what is answered.
+fn memory_of_dump_as_before(case: &Case, outcome: &mut Outcome) {
+    if case.run == Run::Dump {
+        outcome.memory.clone_from(&case.memory);
+    }
+}
 
 const FAULTS: &[Faulty] = &[
     Faulty {
@@ -99,6 +108,57 @@ const FAULTS: &[Faulty] = &[
         name: "one step too many is counted",
         case: same_case,
         outcome: |_, outcome| outcome.report.steps += u64::from(outcome.report.steps > 100),
+    },
+    Faulty {
+        name: "the dump run is a board run",
+        case: |case| {
+            if case.run == Run::Dump && case.memory.len() == 8192 {
+                case.run = Run::Board;
+                case.numbers.t = 3;
+            }
+        },
+        outcome: same_outcome,
+    },
+    Faulty {
+        name: "a dump has one cell less than the most",
+        case: |case| {
+            if case.run == Run::Dump {
+                case.memory.truncate(MOST_CELLS - 1);
+            }
+        },
+        outcome: memory_of_dump_as_before,
+    },
+    Faulty {
+        name: "the last byte of a longer dump is its last cell",
+        case: |case| {
+            if case.run == Run::Dump && case.memory.len() > MOST_CELLS {
+                case.memory.drain(MOST_CELLS - 1..case.memory.len() - 1);
+            }
+        },
+        outcome: memory_of_dump_as_before,
+    },
+    Faulty {
+        name: "a dump that is too short for a read has no cells",
+        case: |case| {
+            if case.run == Run::Dump && case.memory.len() < 8 {
+                case.memory.clear();
+            }
+        },
+        outcome: memory_of_dump_as_before,
+    },
+    Faulty {
+        name: "an empty dump is refused by 2",
+        case: same_case,
+        outcome: |case, outcome| {
+            if case.run == Run::Dump && case.memory.is_empty() {
+                outcome.report = Report { refusal: 2, ..Report::default() };
+            }
+        },
+    },
+    Faulty {
+        name: "the report of a dump has stored bits",
+        case: same_case,
+        outcome: |case, outcome| outcome.report.stored |= u8::from(case.run == Run::Dump) << 7,
     },
 ];
 

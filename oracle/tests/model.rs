@@ -1,7 +1,7 @@
 //! The model agrees with itself: the buses with each other, a driver over each of them with the image that the rules
 //! give it, and the layers with plain lists of cells.
 
-use oracle::board::{Board, Cell, Cells, Join, MOST_CELLS, Memory, Shield, Window};
+use oracle::board::{Board, Cell, Cells, Dump, Join, MOST_CELLS, Memory, ReadBoard, Shield, Window};
 use oracle::bus::{Bus, ByteBus, Line, Mode};
 use oracle::chip::{Chip, ParkedChip};
 use oracle::differential::{Model, Outcome};
@@ -338,4 +338,40 @@ fn a_write_over_the_seam_puts_all_or_none() {
     assert_eq!(join.write(6, &[5, 6, 7]), Ok(()));
     assert_eq!(low[5..], [0, 5, 6]);
     assert_eq!(high[..3], [7, 0, 0]);
+}
+
+#[test]
+fn layers_over_dumps_read_as_over_memory() {
+    for seed in 0..2_000 {
+        let rng = &mut Rng::of_case(7, seed);
+        let lengths = [rng.below(40), rng.below(40)];
+        let [low, high] = lengths.map(|length| rng.bytes(length));
+        let (offset, length) = (rng.below(50), rng.below(50));
+        let mut dumps = Join::new(Window::new(Dump::new(&low), offset, length), Dump::new(&high));
+        let (mut low, mut high) = (low.clone(), high.clone());
+        let mut memories = Join::new(Window::new(Memory::new(&mut low), offset, length), Memory::new(&mut high));
+        assert_eq!(dumps.size(), memories.size());
+        for _ in 0..20 {
+            let (start, count) = range(rng, dumps.size(), dumps.size() / 2);
+            let mut buffers = [vec![0xA5; count], vec![0xA5; count]];
+            let [ours, theirs] = &mut buffers;
+            assert_eq!(dumps.read(start, ours), memories.read(start, theirs));
+            assert_eq!(ours, theirs);
+        }
+    }
+}
+
+#[test]
+fn a_dump_is_cut_at_the_most_cells() {
+    let mut long = vec![0; MOST_CELLS + 10];
+    long[MOST_CELLS - 1..MOST_CELLS + 1].copy_from_slice(&[1, 2]);
+    let mut dump = Dump::new(&long);
+    assert_eq!(dump.size(), MOST_CELLS);
+    let mut two = [9; 2];
+    assert_eq!(dump.read(MOST_CELLS - 1, &mut two), Err(Refusal::OutOfRange));
+    assert_eq!(two, [9; 2]);
+    assert_eq!(dump.read(MOST_CELLS - 2, &mut two), Ok(()));
+    assert_eq!(two, [0, 1]);
+    assert_eq!(dump.read(MOST_CELLS, &mut []), Ok(()));
+    assert_eq!(dump.read(MOST_CELLS + 1, &mut []), Err(Refusal::OutOfRange));
 }

@@ -43,3 +43,10 @@ fram_report fram_board_run(uint8_t t, uint8_t f, uint8_t drop, uint8_t sleep, ui
     (void)t, (void)f, (void)drop, (void)sleep, (void)fast, (void)stored, (void)script, (void)script_len;
     return answer(memory, memory_len, answers, answers_len);
 }
+
+fram_report fram_dump_run(const uint8_t *memory, size_t memory_len, const uint8_t *script, size_t script_len, uint8_t *answers,
+                          size_t answers_len)
+{
+    (void)script, (void)script_len;
+    return answer(memory, memory_len, answers, answers_len);
+}

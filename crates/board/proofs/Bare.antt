@@ -28,13 +28,15 @@ module _ {u : Unit {0}} {cells : List ℕ} (memory : List ℕ) (s n : ℕ) (all 
   pub fence_none : Ok None ≡ fence_result (plain memory) s n
   fence_none = rw (plain_inside, no_fence memory s n)
 
-module _ {u : Unit {0}} {cells : List ℕ} (memory : List ℕ) (s : ℕ) (bs : List ℕ) (all : cells ≡ take most memory) (lies : Ok u ≡ range_result (length cells) s (length bs)) where
-  -- a buffer after a copy out of that part of the cells
-  pub read_filled : {out : List ℕ} → out ≡ take (s + length bs - s) (drop s cells) → out ≡ read_into (plain memory) s bs
-  read_filled copied =
-      let k : s + length bs - s ≡ length bs = omega arith in
-      rw (plain_inside memory s (length bs) all lies) (copied ∙ simp (k, all, drop-map, take-map, bytes_free))
+-- a buffer after a copy out of that part of the cells
+pub read_filled : {u : Unit {0}} {out : List ℕ} (cells : List ℕ) (s : ℕ) (buffer : List ℕ) → Ok u ≡ range_result (length cells) s (length buffer) →
+    out ≡ take (s + length buffer - s) (drop s cells) → out ≡ read_into (map free cells) s buffer
+read_filled cells s buffer lies copied =
+    let k : s + length buffer - s ≡ length buffer = omega arith in
+    let h : inside (map free cells) s (length buffer) ≡ true = simp length-map (range_inside (length cells) s (length buffer) lies) in
+    rw h (copied ∙ simp (k, drop-map, take-map, bytes_free))
 
+module _ {u : Unit {0}} {cells : List ℕ} (memory : List ℕ) (s : ℕ) (bs : List ℕ) (all : cells ≡ take most memory) (lies : Ok u ≡ range_result (length cells) s (length bs)) where
   -- the memory after a copy into that part of it
   copied_in : {new : List ℕ} → new ≡ bs → take s memory ++ (new ++ post_of s (s + length bs - s) memory) ≡ patched memory s bs
   copied_in copied =

@@ -1,4 +1,5 @@
-//! Boards: anything that means an image, and plain memory, the lowest of them.
+//! Boards: anything that means an image. A reading board has size and read; a board can be asked for fences and written too.
+//! The lowest of them are a dump, which is memory held for reading, and plain memory.
 //!
 //! What it promises: each call of a board answers and leaves what the definitions say of its image; it leaves all that stands
 //! below the board, but for what an accepted write puts there; a refused call leaves the buffer; and no call changes what a
@@ -11,9 +12,12 @@ ghost use Rattle.board_model.specs.Results.{range_result, fence_result, read_res
 ghost use Rattle.board_model.specs.Beneath.{Standing};
 ghost use Rattle.std.specs.Borrow.{GName};
 
+mod cells;
+mod dump;
 mod plain;
 
 use datasheet::Refusal;
+pub use dump::Dump;
 pub use plain::{Plain, write_plain};
 
 /// The most cells that a board has.
@@ -30,9 +34,9 @@ pub fn check_range(start: usize, count: usize, size: usize) -> Result<(), Refusa
     }
 }
 
-/// A board means an image. Each call answers and leaves what the definitions say of it, and of what stands below the board. An
-/// impl that says more repeats these clauses, since its own replace the trait's.
-pub trait Board {
+/// A reading board: it means a whole image, the fences too, and its calls leave all of it, what stands below it, and what it was
+/// given. An impl that says more repeats these clauses, since its own replace the trait's.
+pub trait ReadBoard {
     // The cells in order, at most 1,048,576.
     ghost image: { Self → Image };
 
@@ -54,7 +58,8 @@ pub trait Board {
 
     ghost shown: { (s : Self) → image s ≡ shows (beneath s) };
 
-    // What an accepted write from a start on makes of what stands below.
+    // What an accepted write from a start on makes of what stands below. It is a part of what the image means, also where there
+    // is no call that writes: a board that is fenced throughout accepts no byte, and so puts nothing.
     ghost put: { Beneath → ℕ → List ℕ → Beneath };
 
     // Where a byte may stand below, the byte that stands there, and where that of a cell does.
@@ -74,14 +79,6 @@ pub trait Board {
         ensures beneath { beneath self.new ≡ beneath self.old }
         ensures lent { lent self.new ≡ lent self.old };
 
-    /// The first fenced place among `count` places from `start` on: asked in the shape of a read and a write, whose count is the
-    /// length of what they take, and so by no `Range`.
-    fn first_fence(&mut self, start: usize, count: usize) -> Result<Option<usize>, Refusal>
-        ensures answer { result ≡ fence_result (image self.old) start count }
-        ensures same { image self.new ≡ image self.old }
-        ensures beneath { beneath self.new ≡ beneath self.old }
-        ensures lent { lent self.new ≡ lent self.old };
-
     /// Fills the buffer with the bytes from `start` on; a refused read leaves it.
     fn read(&mut self, start: usize, buffer: &mut [u8]) -> Result<(), Refusal>
         ensures answer { result ≡ read_result (image self.old) start (length buffer.old) }
@@ -89,19 +86,31 @@ pub trait Board {
         ensures same { image self.new ≡ image self.old }
         ensures beneath { beneath self.new ≡ beneath self.old }
         ensures lent { lent self.new ≡ lent self.old };
+}
+
+/// A board that can be written too. What a write makes of the image, and of what stands below, is said by the meaning that the
+/// board has as a reading board.
+pub trait Board: ReadBoard {
+    /// The first fenced place among `count` places from `start` on: asked in the shape of a read and a write, whose count is the
+    /// length of what they take, and so by no `Range`.
+    fn first_fence(&mut self, start: usize, count: usize) -> Result<Option<usize>, Refusal>
+        ensures answer { result ≡ fence_result (Self.image self.old) start count }
+        ensures same { Self.image self.new ≡ Self.image self.old }
+        ensures beneath { Self.beneath self.new ≡ Self.beneath self.old }
+        ensures lent { Self.lent self.new ≡ Self.lent self.old };
 
     /// Puts all bytes from `start` on, or none.
     fn write(&mut self, start: usize, bytes: &[u8]) -> Result<(), Refusal>
-        ensures answer { result ≡ write_result (image self.old) start bytes.now }
-        ensures after { image self.new ≡ written (image self.old) start bytes.now }
-        ensures beneath { beneath self.new ≡
-            if_accepted (write_result (image self.old) start bytes.now)
-            (put (beneath self.old) start bytes.now) (beneath self.old) }
-        ensures lent { lent self.new ≡ lent self.old };
+        ensures answer { result ≡ write_result (Self.image self.old) start bytes.now }
+        ensures after { Self.image self.new ≡ written (Self.image self.old) start bytes.now }
+        ensures beneath { Self.beneath self.new ≡
+            if_accepted (write_result (Self.image self.old) start bytes.now)
+            (Self.put (Self.beneath self.old) start bytes.now) (Self.beneath self.old) }
+        ensures lent { Self.lent self.new ≡ Self.lent self.old };
 }
 
 // A board that is lent is a board.
-impl<B: Board> Board for &mut B {
+impl<B: ReadBoard> ReadBoard for &mut B {
     ghost image = { λ s. B.image s.now };
 
     ghost few = { λ s. B.few s.now };
@@ -132,12 +141,14 @@ impl<B: Board> Board for &mut B {
         (**self).size()
     }
 
-    fn first_fence(&mut self, start: usize, count: usize) -> Result<Option<usize>, Refusal> {
-        (**self).first_fence(start, count)
-    }
-
     fn read(&mut self, start: usize, buffer: &mut [u8]) -> Result<(), Refusal> {
         (**self).read(start, buffer)
+    }
+}
+
+impl<B: Board> Board for &mut B {
+    fn first_fence(&mut self, start: usize, count: usize) -> Result<Option<usize>, Refusal> {
+        (**self).first_fence(start, count)
     }
 
     fn write(&mut self, start: usize, bytes: &[u8]) -> Result<(), Refusal> {

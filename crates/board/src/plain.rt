@@ -6,7 +6,8 @@ ghost use Rattle.board_model.specs.Layers.{plain, patched};
 ghost use Rattle.board.specs.Plains.{plain_image, memory_after};
 ghost use Rattle.board_model.proofs.Plains.{plain_few, plain_standing};
 
-use crate::{Board, MOST, check_range};
+use crate::cells::{cells, read_cells};
+use crate::{Board, ReadBoard, check_range};
 use datasheet::Refusal;
 
 /// Plain memory: the first 1,048,576 bytes of lent memory, all free.
@@ -28,11 +29,11 @@ impl<'m> Plain<'m> {
     fn cells(&self) -> &[u8]
         ensures { result.now ≡ take most self.now.memory.now }
     {
-        &self.memory[..MOST.min(self.memory.len())]
+        cells(self.memory)
     }
 }
 
-impl Board for Plain<'_> {
+impl ReadBoard for Plain<'_> {
     ghost image = { plain_image };
 
     ghost few = { λ s. plain_few s.memory.now };
@@ -65,16 +66,15 @@ impl Board for Plain<'_> {
         self.cells().len()
     }
 
+    fn read(&mut self, start: usize, buffer: &mut [u8]) -> Result<(), Refusal> {
+        read_cells(self.cells(), start, buffer)
+    }
+}
+
+impl Board for Plain<'_> {
     fn first_fence(&mut self, start: usize, count: usize) -> Result<Option<usize>, Refusal> {
         check_range(start, count, self.cells().len())?;
         Ok(None)
-    }
-
-    fn read(&mut self, start: usize, buffer: &mut [u8]) -> Result<(), Refusal> {
-        let cells = self.cells();
-        check_range(start, buffer.len(), cells.len())?;
-        buffer.copy_from_slice(&cells[start..start + buffer.len()]);
-        Ok(())
     }
 
     fn write(&mut self, start: usize, bytes: &[u8]) -> Result<(), Refusal> {

@@ -1,11 +1,12 @@
 -- Images by their bytes and their fences, front by front.
 use Rattle.std.proofs.Common.{◌≡◌, ℕ, Bool, cond, replicate, ◌++◌, suc, ◌+◌, ◌-◌, ◌<◌, ◌≤◌, true, false, List, [], ◌∷◌, map, length, take, drop, Some, None, Ok, Option, sym, refl, ap, ◌∙◌, min, arith, take-add}
 use Rattle.std.proofs.lemmas.Bool.{le-leb}
-use Rattle.std.proofs.lemmas.List.{take-map, drop-map, take_all, take_min, take_rest, take-append-drop, length-drop, length-map}
+use Rattle.std.proofs.lemmas.List.{drop-map, take_all, take_min, take_rest, take-append-drop, length-drop, length-map}
 use Rattle.board_model.specs.declared.Cell.{Cell}
 use Rattle.board_model.specs.Images.{Image, part, bytes_of, first_fenced, fence_in}
 use Rattle.board_model.specs.Results.{fence_result, read_into}
 use Rattle.board_model.proofs.Told.{same_cell}
+use Rattle.board_model.proofs.SizesAndReads.{part_bytes}
 use Rattle.board_equality.specs.Sides.{fences_of}
 
 -- the place of the first fence, by the fences alone, where the first of them stands at this place
@@ -41,21 +42,15 @@ sides_same [] (d ∷ ds) e f = cc
 sides_same (c ∷ cs) [] e f = cc
 sides_same (c ∷ cs) (d ∷ ds) e f = cc (sides_same cs ds (cc) (cc), same_cell c d (cc) (cc))
 
--- a part, by what is looked at of a cell, and a front that is the whole
-part_is : {X : Type 0} (f : Cell → X) (i : Image) (start count : ℕ) → map f (part i start count) ≡ take count (drop start (map f i))
-part_is f i start count = sym (take-map f count (drop start i)) ∙ ap (take count) (sym (drop-map f start i))
-
+-- a front that is the whole
 all_of : {X : Type 0} (f : Cell → X) (i : Image) (k : ℕ) → length i ≤ k → take k (map f i) ≡ map f i
 all_of f i k h = take_all k (map f i) (simp length-map (omega arith))
 
--- the bytes of a chunk; one chunk more, and the last
-pub chunk_bytes : (i : Image) (start count : ℕ) → bytes_of (part i start count) ≡ take count (drop start (bytes_of i))
-chunk_bytes = part_is (λ c. c.byte)
-
+-- one chunk of bytes more, and the last
 module _ (i j : Image) (start count : ℕ) (before : take start (bytes_of i) ≡ take start (bytes_of j)) (here : bytes_of (part i start count) ≡ bytes_of (part j start count)) where
   pub chunk_more : take (start + count) (bytes_of i) ≡ take (start + count) (bytes_of j)
   chunk_more =
-      cc (chunk_bytes i start count, chunk_bytes j start count, take-add start count (bytes_of i), take-add start count (bytes_of j))
+      cc (part_bytes i start count, part_bytes j start count, take-add start count (bytes_of i), take-add start count (bytes_of j))
 
   pub chunk_last : length i ≤ start + count → length j ≤ start + count → bytes_of i ≡ bytes_of j
   chunk_last h l = cc (chunk_more, all_of (λ c. c.byte) i (start + count) h, all_of (λ c. c.byte) j (start + count) l)

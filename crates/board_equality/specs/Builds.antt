@@ -1,6 +1,6 @@
 -- What a board answers, whatever it is built of.
 use Rattle.std.specs.Prelude.{List}
-use Rattle.board.specs.declared.Board.{Ghosts}
+use Rattle.board.specs.declared.ReadBoard.{Ghosts}
 use Rattle.board_model.specs.Calls.{BoardCall, BoardAnswer, answers_below}
 
 -- what a board is answered a list of calls, made one after the other; `build` says of a board of this build what stands

@@ -1,6 +1,6 @@
 -- The fences of a board, one after the other.
 use Rattle.std.specs.Prelude.{◌≡◌, ℕ, ◌+◌, ◌-◌, Option, IfSome}
-use Rattle.board.specs.declared.Board.{Ghosts}
+use Rattle.board.specs.declared.ReadBoard.{Ghosts}
 use Rattle.board_model.specs.Images.{fence_in}
 use Rattle.board_equality.specs.Sides.{Kept}
 use Rattle.board_equality.specs.declared.boards.Fences.{Fences}

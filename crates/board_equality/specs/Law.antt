@@ -1,4 +1,4 @@
--- The law of equality, whole: two chips, or two boards, are equal exactly when nothing that can be sent to them tells
+-- The laws of equality. The first, whole: two chips, or two boards, are equal exactly when nothing that can be sent to them tells
 -- them apart: every list of calls that can be sent gets equal answers from both. A refusal is an answer.
 use Rattle.std.specs.Prelude.{◌≡◌, Bool, ◌↔◌, List}
 use Rattle.datasheet.specs.declared.registers.Registers.{Registers}
@@ -8,8 +8,9 @@ use Rattle.datasheet.specs.Chips.{deselected, whole}
 use Rattle.datasheet.specs.Calls.{ChipState, Sendable as ChipSendable, answers as chip_answers}
 use Rattle.datasheet.specs.Pasts.{Past, chip_now}
 use Rattle.datasheet.specs.Kept.{bounded}
-use Rattle.board.specs.declared.Board.{Ghosts}
-use Rattle.board_model.specs.Calls.{Sendable as BoardSendable}
+use Rattle.board.specs.declared.ReadBoard.{Ghosts}
+use Rattle.board_model.specs.Images.{bytes_of}
+use Rattle.board_model.specs.Calls.{Sendable as BoardSendable, Readable}
 use Rattle.board_equality.specs.Builds.{answers_of}
 
 -- `left` and `right` are any two builds of boards, of like build or unlike
@@ -32,3 +33,12 @@ pub record Equality {P Q : Type 0} (left : Ghosts P) (right : Ghosts Q) : Type 0
   -- and writes gets equal answers from both.
   pub boards : (a : P) (b : Q) →
       (left.image a ≡ right.image b) ↔ Alike BoardSendable (answers_of left) (answers_of right) a b
+
+-- The law of agreement: `left` and `right` are any two builds of reading boards, full boards or not, of like build or
+-- unlike. Two of them agree in size and bytes, whatever is fenced, exactly when every list of sizes and reads gets equal
+-- answers from both.
+abbrev pub Agreement : {P Q : Type 0} → Ghosts P → Ghosts Q → Type 0
+Agreement {P} {Q} left right =
+    (a : P) (b : Q) →
+    (bytes_of (left.image a) ≡ bytes_of (right.image b))
+    ↔ Alike Readable (answers_of left) (answers_of right) a b

@@ -1,5 +1,5 @@
 -- What a comparison leaves of two boards.
-use Rattle.board.specs.declared.Board.{Ghosts}
+use Rattle.board.specs.declared.ReadBoard.{Ghosts}
 use Rattle.board_equality.specs.Sides.{Kept}
 use Rattle.board_equality.specs.declared.boards.Pair.{Pair}
 

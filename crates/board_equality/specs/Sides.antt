@@ -1,6 +1,6 @@
 -- The fences of an image, and what a comparison leaves of a board.
 use Rattle.std.specs.Prelude.{◌≡◌, Bool, List, map}
-use Rattle.board.specs.declared.Board.{Ghosts}
+use Rattle.board.specs.declared.ReadBoard.{Ghosts}
 use Rattle.board_model.specs.declared.Cell.{Cell}
 
 -- the fences of some cells: of each, whether it is fenced

@@ -3,14 +3,14 @@ ghost use Rattle.std.specs.Prelude.{◌≡◌, ◌≤◌, length, Decides};
 ghost use Rattle.board_model.specs.Images.{bytes_of, part};
 ghost use Rattle.board_equality.specs.Sides.{fences_of, Kept};
 
-use board::Board;
+use board::{Board, ReadBoard};
 
 /// How many bytes are read at once.
 const CHUNK: usize = 32;
 
 /// The fenced places of a board from `start` on, in order.
 #[derive(Drop)]
-struct Fences<B: Board> {
+struct Fences<B: ReadBoard> {
     board: B,
     start: usize,
     size: usize,
@@ -18,7 +18,7 @@ struct Fences<B: Board> {
     ghost inside: { start ≤ size },
 }
 
-impl<B: Board> Fences<B> {
+impl<B: ReadBoard> Fences<B> {
     /// The fences of a board of this size.
     fn of(board: B, size: usize) -> Self
         requires sized { length (B.image board) ≡ size }
@@ -56,7 +56,7 @@ impl<B: Board + Drop> Iterator for Fences<B> {
 
 /// Two boards of one size.
 #[derive(Drop)]
-struct Pair<P: Board, Q: Board> {
+struct Pair<P: ReadBoard, Q: ReadBoard> {
     left: P,
     right: Q,
     size: usize,
@@ -64,24 +64,8 @@ struct Pair<P: Board, Q: Board> {
     ghost right_sized: { length (Q.image right) ≡ size },
 }
 
-impl<P: Board, Q: Board> Pair<P, Q> {
+impl<P: ReadBoard, Q: ReadBoard> Pair<P, Q> {
     ghost use Rattle.board_equality.specs.Pairs.{Untouched};
-
-    /// Whether the boards have the same fences.
-    #[tactic(auto, using(crate::proofs::Sides::hops))]
-    fn same_fences(&mut self) -> bool
-        ensures exact { Decides result (fences_of (P.image self.old.left) ≡ fences_of (Q.image self.old.right)) }
-        ensures kept { Untouched self.old self.new }
-    {
-        // tried by `Iterator::eq`: it does not say how it leaves the boards that its iterators hold
-        let mut right = Fences::of(&mut self.right, self.size);
-        for place in Fences::of(&mut self.left, self.size) {
-            if right.next() != Some(place) {
-                return false;
-            }
-        }
-        right.next().is_none()
-    }
 
     /// Whether the boards have the same bytes from `start` on, as far as a chunk reaches.
     fn same_chunk(&mut self, start: usize) -> bool
@@ -113,12 +97,32 @@ impl<P: Board, Q: Board> Pair<P, Q> {
     }
 }
 
+impl<P: Board, Q: Board> Pair<P, Q> {
+    ghost use Rattle.board_equality.specs.Pairs.{Untouched};
+
+    /// Whether the boards have the same fences.
+    #[tactic(auto, using(crate::proofs::Sides::hops))]
+    fn same_fences(&mut self) -> bool
+        ensures exact { Decides result (fences_of (P.image self.old.left) ≡ fences_of (Q.image self.old.right)) }
+        ensures kept { Untouched self.old self.new }
+    {
+        // tried by `Iterator::eq`: it does not say how it leaves the boards that its iterators hold
+        let mut right = Fences::of(&mut self.right, self.size);
+        for place in Fences::of(&mut self.left, self.size) {
+            if right.next() != Some(place) {
+                return false;
+            }
+        }
+        right.next().is_none()
+    }
+}
+
 /// Whether two boards have the same image, found out by calls alone.
 #[tactic(auto, using(crate::proofs::Sides::sides_same))]
 pub(crate) fn same_image<P: Board, Q: Board>(left: &mut P, right: &mut Q) -> bool
     ensures exact { Decides result (P.image left.old ≡ Q.image right.old) }
-    ensures left { Kept P.Board left.old left.new }
-    ensures right { Kept Q.Board right.old right.new }
+    ensures left { Kept P.ReadBoard left.old left.new }
+    ensures right { Kept Q.ReadBoard right.old right.new }
 {
     let size = left.size();
     if right.size() != size {
@@ -126,4 +130,19 @@ pub(crate) fn same_image<P: Board, Q: Board>(left: &mut P, right: &mut Q) -> boo
     }
     let mut pair = Pair { left, right, size };
     pair.same_fences() && pair.same_bytes()
+}
+
+/// Whether two reading boards have as many cells and the same bytes, found out by calls alone.
+#[tactic(auto, using(board_model::proofs::SizesAndReads::same_size))]
+pub(crate) fn same_reading<P: ReadBoard, Q: ReadBoard>(left: &mut P, right: &mut Q) -> bool
+    ensures exact { Decides result (bytes_of (P.image left.old) ≡ bytes_of (Q.image right.old)) }
+    ensures left { Kept P.ReadBoard left.old left.new }
+    ensures right { Kept Q.ReadBoard right.old right.new }
+{
+    let size = left.size();
+    if right.size() != size {
+        return false;
+    }
+    let mut pair = Pair { left, right, size };
+    pair.same_bytes()
 }

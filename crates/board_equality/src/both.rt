@@ -34,14 +34,14 @@ pub fn compare<P: Board, Q: Board>(
         Decides result.chips (Alike ChipSendable (chip_answers bounded) (chip_answers bounded) (chip_of first.now) (chip_of second.now)) }
     ensures boards { Decides result.boards (P.image left.old ≡ Q.image right.old) }
     ensures boards_untold { Decides result.boards
-        (Alike BoardSendable (answers_of P.Board) (answers_of Q.Board) left.old right.old) }
+        (Alike BoardSendable (answers_of P.ReadBoard) (answers_of Q.ReadBoard) left.old right.old) }
     ensures left { P.image left.new ≡ P.image left.old }
     ensures right { Q.image right.new ≡ Q.image right.old }
     ensures beneath_left { P.beneath left.new ≡ P.beneath left.old }
     ensures beneath_right { Q.beneath right.new ≡ Q.beneath right.old }
     ensures lent_left { P.lent left.new ≡ P.lent left.old }
     ensures lent_right { Q.lent right.new ≡ Q.lent right.old }
-    ensures law { Equality P.Board Q.Board }
+    ensures law { Equality P.ReadBoard Q.ReadBoard }
 {
     let chips = first.same_record(second);
     let boards = same_image(left, right);

@@ -9,7 +9,7 @@ ghost use Rattle.board_model.specs.JoinBeneath.{JoinBeneath, JoinPlace, join_sho
 ghost use Rattle.board_model.proofs.Joins.{join_few, join_shown};
 ghost use Rattle.board_model.proofs.JoinBeneath.{join_standing};
 
-use board::{Board, MOST, check_range};
+use board::{Board, MOST, ReadBoard, check_range};
 use board_model::Range;
 use datasheet::Refusal;
 
@@ -28,7 +28,7 @@ struct Cut {
     back: Range,
 }
 
-impl<A: Board, B: Board> Join<A, B> {
+impl<A: ReadBoard, B: ReadBoard> Join<A, B> {
     /// A join of two boards.
     pub fn new(first: A, second: B) -> Join<A, B>
         ensures first { result.first ≡ first }
@@ -66,7 +66,7 @@ impl<A: Board, B: Board> Join<A, B> {
     }
 }
 
-impl<A: Board, B: Board> Board for Join<A, B> {
+impl<A: ReadBoard, B: ReadBoard> ReadBoard for Join<A, B> {
     ghost image = { join_image A.image B.image };
 
     ghost few = { λ s. join_few (A.image s.first) (B.image s.second) };
@@ -97,6 +97,15 @@ impl<A: Board, B: Board> Board for Join<A, B> {
         MOST.min(self.first.size() + self.second.size())
     }
 
+    fn read(&mut self, start: usize, buffer: &mut [u8]) -> Result<(), Refusal> {
+        let cut = self.cut(start, buffer.len())?;
+        let (front, back) = buffer.split_at_mut(cut.front.count);
+        self.first.read(cut.front.start, front)?;
+        self.second.read(cut.back.start, back)
+    }
+}
+
+impl<A: Board, B: Board> Board for Join<A, B> {
     fn first_fence(&mut self, start: usize, count: usize) -> Result<Option<usize>, Refusal> {
         let cut = self.cut(start, count)?;
         let ahead = self.first.first_fence(cut.front.start, cut.front.count)?;
@@ -106,13 +115,6 @@ impl<A: Board, B: Board> Board for Join<A, B> {
         }
         let behind = self.second.first_fence(cut.back.start, cut.back.count)?;
         Ok(behind.map(|place| cut.seam + place))
-    }
-
-    fn read(&mut self, start: usize, buffer: &mut [u8]) -> Result<(), Refusal> {
-        let cut = self.cut(start, buffer.len())?;
-        let (front, back) = buffer.split_at_mut(cut.front.count);
-        self.first.read(cut.front.start, front)?;
-        self.second.read(cut.back.start, back)
     }
 
     fn write(&mut self, start: usize, bytes: &[u8]) -> Result<(), Refusal> {

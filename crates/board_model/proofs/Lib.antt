@@ -3,6 +3,7 @@ pub mod Cells
 pub mod Standing
 pub mod Plains
 pub mod Fenced
+pub mod Dumps
 pub mod Windows
 pub mod WindowBeneath
 pub mod Joins
@@ -10,3 +11,4 @@ pub mod JoinBeneath
 pub mod Shields
 pub mod ShieldBeneath
 pub mod Told
+pub mod SizesAndReads

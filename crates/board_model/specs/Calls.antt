@@ -1,5 +1,5 @@
 -- Lists of calls on a board, and what they are answered.
-use Rattle.std.specs.Prelude.{ℕ, List, length, All, Ok, Err, Option, Result}
+use Rattle.std.specs.Prelude.{◌≡◌, ℕ, Bool, true, false, List, length, All, Ok, Err, Option, Result}
 use Rattle.datasheet.specs.declared.refusal.Refusal.{Refusal}
 use Rattle.datasheet.specs.Numbers.{Byte, MachineNumber}
 use Rattle.datasheet.specs.Refusals.{refusal_number}
@@ -20,6 +20,17 @@ Sendable size = Unit {0}
 Sendable (fence start count) = MachineNumber start × MachineNumber count
 Sendable (read start count) = MachineNumber start × MachineNumber count
 Sendable (write start bs) = MachineNumber start × MachineNumber (length bs) × All Byte bs
+
+-- a call that a reading board takes too: a size or a read
+abbrev pub reads_only : BoardCall → Bool
+reads_only size = true
+reads_only (fence start count) = false
+reads_only (read start count) = true
+reads_only (write start bs) = false
+
+-- what can be sent to a reading board: sizes and reads
+abbrev pub Readable : BoardCall → Type 0
+Readable call = (reads_only call ≡ true) × Sendable call
 
 -- the number of cells; the first fenced place or none; the bytes that a read put into a buffer of its own;
 -- done; or a refusal's number

@@ -4,11 +4,15 @@ use Rattle.datasheet.specs.declared.refusal.Refusal.{Refusal}
 use Rattle.datasheet.specs.declared.refusal.Refusal.TheVariants.{OutOfRange}
 use Rattle.board_model.specs.declared.Cell.{Cell}
 use Rattle.board_model.specs.declared.Range.{Range}
-use Rattle.board_model.specs.Images.{Image, most, inside, free}
+use Rattle.board_model.specs.Images.{Image, most, inside, free, fenced}
 
 -- plain memory: its first 1,048,576 bytes, all free
 abbrev pub plain : List ℕ → Image
 plain memory = map free (take most memory)
+
+-- a dump, memory that nobody may write: its first 1,048,576 bytes, all fenced
+abbrev pub dumped : List ℕ → Image
+dumped memory = map fenced (take most memory)
 
 -- a memory with bytes put from start on
 abbrev pub patched : List ℕ → ℕ → List ℕ → List ℕ

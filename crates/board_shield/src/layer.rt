@@ -11,7 +11,7 @@ ghost use Rattle.board_model.proofs.Shields.{shield_few};
 ghost use Rattle.board_model.proofs.ShieldBeneath.{shield_standing};
 
 use crate::ranges::Ranges;
-use board::Board;
+use board::{Board, ReadBoard};
 use board_model::Range;
 use datasheet::Refusal;
 
@@ -29,7 +29,7 @@ fn earlier(a: Option<usize>, b: Option<usize>) -> Option<usize>
     a.into_iter().chain(b).min()
 }
 
-impl<B: Board> Shield<B> {
+impl<B: ReadBoard> Shield<B> {
     /// A shield with no range over a board.
     pub fn new(below: B) -> Shield<B>
         ensures below { result.below ≡ below }
@@ -63,7 +63,7 @@ impl<B: Board> Shield<B> {
     }
 }
 
-impl<B: Board> Board for Shield<B> {
+impl<B: ReadBoard> ReadBoard for Shield<B> {
     ghost image = { shield_image B.image };
 
     ghost few = { λ s. shield_few (ranges_of s.ranges) (B.image s.below) (B.few s.below) };
@@ -94,13 +94,15 @@ impl<B: Board> Board for Shield<B> {
         self.below.size()
     }
 
+    fn read(&mut self, start: usize, buffer: &mut [u8]) -> Result<(), Refusal> {
+        self.below.read(start, buffer)
+    }
+}
+
+impl<B: Board> Board for Shield<B> {
     fn first_fence(&mut self, start: usize, count: usize) -> Result<Option<usize>, Refusal> {
         let below = self.below.first_fence(start, count)?;
         Ok(earlier(self.ranges.first_in(Range { start, count }), below))
-    }
-
-    fn read(&mut self, start: usize, buffer: &mut [u8]) -> Result<(), Refusal> {
-        self.below.read(start, buffer)
     }
 
     fn write(&mut self, start: usize, bytes: &[u8]) -> Result<(), Refusal> {

@@ -1,15 +1,17 @@
 //! Trials of piles of boards.
 //!
 //! What it promises: a write through a pile of three changes the lent memory at the bottom in exactly the bytes that it names, as
-//! its owner sees it.
+//! its owner sees it; a pile of dumps, which nobody may write, reads like a pile of chips.
 #![tactic(auto)]
 
-ghost use Rattle.std.specs.Prelude.{◌≡◌, ◌+◌};
-ghost use Rattle.board_model.specs.Results.{write_result, if_accepted};
+ghost use Rattle.std.specs.Prelude.{◌≡◌, ◌+◌, length};
+ghost use Rattle.board_model.specs.Results.{read_result, read_into, write_result, if_accepted};
 ghost use Rattle.board_model.specs.Layers.{plain, windowed, base_of, patched};
 ghost use Rattle.board_trial.specs.Piles.{piled, cell_in};
+ghost use Rattle.board_trial.specs.Dumps.{dump_pile};
 
-use board::{Board, Plain};
+use board::{Board, Dump, Plain, ReadBoard};
+use board_join::Join;
 use board_model::Range;
 use board_shield::Shield;
 use board_window::Window;
@@ -77,6 +79,29 @@ pub fn write_through(
     write_in_pile(&mut board, fenced, offset, count, start, bytes)
 }
 
+/// Reads through a pile of dumps: two of them joined, a shield of one range over the join, and over that a window of `count`
+/// cells from `offset` on; `start` is a place of the window. What the shield fences is read all the same.
+pub fn read_through(
+    lower: &[u8],
+    upper: &[u8],
+    fenced: Range,
+    offset: usize,
+    count: usize,
+    start: usize,
+    buffer: &mut [u8],
+) -> Result<(), Refusal>
+    ensures answer { result ≡
+        read_result (dump_pile fenced offset count lower.now upper.now) start (length buffer.old) }
+    ensures filled { buffer.new ≡
+        read_into (dump_pile fenced offset count lower.now upper.now) start buffer.old }
+{
+    let mut shield = Shield::new(Join::new(Dump::new(lower), Dump::new(upper)));
+    // a new shield has room for a range
+    let _ = shield.add(fenced);
+    let mut window = Window::new(shield, offset, count);
+    window.read(start, buffer)
+}
+
 #[cfg(test)]
 mod tests {
     use super::*;
@@ -95,5 +120,36 @@ mod tests {
         assert_eq!(rt; written(&mut memory, 4, &[1, 2]), Err(Refusal::OutOfRange));
         assert_eq!(rt; written(&mut memory, 4, &[0xCC]), Ok(()));
         assert_eq!(rt; memory, [0, 0, 0, 0xAA, 0xBB, 0, 0xCC, 0]);
+    }
+
+    #[test]
+    fn a_dump_is_read(rt: HostRuntime) {
+        assert_eq!(rt; Dump::new(&[]).size(), 0);
+        let bytes = [0x27, 0x94, 0x27, 0x9C];
+        let mut dump = Dump::new(&bytes);
+        let mut seen = [0; 2];
+        assert_eq!(rt; dump.size(), 4);
+        assert_eq!(rt; dump.read(2, &mut seen), Ok(()));
+        assert_eq!(rt; seen, [0x27, 0x9C]);
+        assert_eq!(rt; dump.read(3, &mut seen), Err(Refusal::OutOfRange));
+        assert_eq!(rt; seen, [0x27, 0x9C]);
+    }
+
+    #[test]
+    fn a_pile_of_dumps_is_read(rt: HostRuntime) {
+        let lower = [1, 2, 3, 4];
+        let upper = [5, 6, 7, 8];
+        let fenced = Range { start: 3, count: 2 };
+        let mut seen = [0; 3];
+        assert_eq!(rt;
+            read_through(&lower, &upper, fenced, 2, 5, 1, &mut seen),
+            Ok(())
+        );
+        assert_eq!(rt; seen, [4, 5, 6]);
+        assert_eq!(rt;
+            read_through(&lower, &upper, fenced, 2, 5, 3, &mut seen),
+            Err(Refusal::OutOfRange)
+        );
+        assert_eq!(rt; seen, [4, 5, 6]);
     }
 }

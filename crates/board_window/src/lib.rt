@@ -12,7 +12,7 @@ ghost use Rattle.board_model.specs.WindowBeneath.{WindowBeneath, window_shows, w
 ghost use Rattle.board_model.proofs.Windows.{window_few};
 ghost use Rattle.board_model.proofs.WindowBeneath.{window_standing};
 
-use board::{Board, check_range};
+use board::{Board, ReadBoard, check_range};
 use datasheet::Refusal;
 
 /// The cells of a board from an offset on, at most `count` of them, as far as they exist there. The two numbers are kept
@@ -24,7 +24,7 @@ pub struct Window<B> {
     count: usize,
 }
 
-impl<B: Board> Window<B> {
+impl<B: ReadBoard> Window<B> {
     /// A window over a board.
     pub fn new(below: B, offset: usize, count: usize) -> Window<B>
         ensures below { result.below ≡ below }
@@ -56,7 +56,7 @@ impl<B: Board> Window<B> {
     }
 }
 
-impl<B: Board> Board for Window<B> {
+impl<B: ReadBoard> ReadBoard for Window<B> {
     ghost image = { window_image B.image };
 
     ghost few = { λ s. window_few s.offset s.count (B.image s.below) (B.few s.below) };
@@ -88,15 +88,17 @@ impl<B: Board> Board for Window<B> {
         self.count.min(total.saturating_sub(self.offset))
     }
 
+    fn read(&mut self, start: usize, buffer: &mut [u8]) -> Result<(), Refusal> {
+        let base = self.base(start, buffer.len())?;
+        self.below.read(base + start, buffer)
+    }
+}
+
+impl<B: Board> Board for Window<B> {
     fn first_fence(&mut self, start: usize, count: usize) -> Result<Option<usize>, Refusal> {
         let base = self.base(start, count)?;
         let found = self.below.first_fence(base + start, count)?;
         Ok(found.map(|place| place - base))
-    }
-
-    fn read(&mut self, start: usize, buffer: &mut [u8]) -> Result<(), Refusal> {
-        let base = self.base(start, buffer.len())?;
-        self.below.read(base + start, buffer)
     }
 
     fn write(&mut self, start: usize, bytes: &[u8]) -> Result<(), Refusal> {

@@ -269,7 +269,7 @@ pub fn case_at(i: usize) -> Option<Case>
 #[cfg(test)]
 mod tests {
     use super::*;
-    use board::{Board, Plain};
+    use board::{Board, Plain, ReadBoard};
     use board_model::Range;
     use board_shield::Shield;
     use board_window::Window;

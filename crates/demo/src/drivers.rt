@@ -1,6 +1,6 @@
 // Chips behind drivers as boards: joined, shielded, and compared with plain memory.
 use crate::{Chips, Refused, print_bytes, tell_call, tell_same_boards};
-use board::Board;
+use board::{Board, ReadBoard};
 use board_equality::compare;
 use board_join::Join;
 use board_model::Range;
@@ -45,7 +45,7 @@ fn tell_write<B: Board>(
 }
 
 /// Reads six cells of a board and prints them.
-fn tell_read<B: Board>(rt: &HostRuntime, board: &mut B, start: usize) -> io::Result<()> {
+fn tell_read<B: ReadBoard>(rt: &HostRuntime, board: &mut B, start: usize) -> io::Result<()> {
     let mut bytes = [0; 6];
     match board.read(start, &mut bytes) {
         Ok(()) => {

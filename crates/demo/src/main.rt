@@ -3,8 +3,9 @@
 
 mod buses;
 mod drivers;
+mod dumps;
 
-use board::{Board, Plain};
+use board::{Board, Plain, ReadBoard};
 use board_equality::{Same, compare};
 use board_join::Join;
 use board_model::Range;
@@ -14,6 +15,7 @@ use buses::tell_buses;
 use chip::{Chip, ParkedChip};
 use datasheet::{Level, Part, Refusal, Sample, Sheet};
 use drivers::tell_drivers;
+use dumps::tell_dumps;
 use std::{fmt, io};
 
 /// A refused call, told by the number of its refusal.
@@ -255,6 +257,7 @@ fn two_chips(rt: &HostRuntime, first: &mut Chip<'_>, second: &mut Chip<'_>) -> i
     let chips = Chips { first, second };
     tell_apart(rt, chips)?;
     piles(rt, chips)?;
+    tell_dumps(rt)?;
     tell_drivers(rt, chips)
 }
 
@@ -285,8 +288,8 @@ fn tell_call(rt: &HostRuntime, what: &str, res: Result<(), Refusal>) -> io::Resu
     }
 }
 
-/// Prints the first cells of a board, 24 at the most, and its first fence.
-fn tell_board<B: Board>(rt: &HostRuntime, board: &mut B) -> io::Result<()> {
+/// Prints the size of a reading board and its first cells, 24 at the most.
+fn tell_cells<B: ReadBoard>(rt: &HostRuntime, board: &mut B) -> io::Result<()> {
     let mut bytes = [0; 24];
     let size = board.size();
     let shown = &mut bytes[..size.min(24)];
@@ -295,6 +298,13 @@ fn tell_board<B: Board>(rt: &HostRuntime, board: &mut B) -> io::Result<()> {
     if read.is_ok() {
         print_bytes(rt, shown)?;
     }
+    Ok(())
+}
+
+/// Prints the first cells of a board, and its first fence.
+fn tell_board<B: Board>(rt: &HostRuntime, board: &mut B) -> io::Result<()> {
+    tell_cells(rt, board)?;
+    let size = board.size();
     match board.first_fence(0, size) {
         Ok(Some(place)) => println!(rt; "; the first fence is at {place}"),
         _ => println!(rt; "; no fence"),

@@ -6,8 +6,9 @@ use Rattle.datasheet.specs.declared.refusal.Refusal.TheVariants.{Fenced}
 use Rattle.board_model.specs.Images.{Image, inside, overwritten}
 use Rattle.board_model.specs.Results.{range_result, fence_result, read_into, write_result, if_accepted, written}
 use Rattle.board_model.proofs.Cells.{range_inside, range_fits}
-use Rattle.extend.specs.Seals.{all_fenced}
-use Rattle.extend.specs.SealedFacts.{same_bytes, fence_first, nothing_put}
+use Rattle.extend.specs.Seals.{fence, all_fenced}
+use Rattle.board_model.proofs.Dumps.{fence_first, nothing_put}
+use Rattle.extend.specs.SealedFacts.{same_bytes}
 
 pub same_read : (i : Image) (s : ℕ) (buffer : List ℕ) → read_into (all_fenced i) s buffer ≡ read_into i s buffer
 same_read i s buffer = simp (length-map, drop-map, take-map, same_bytes) refl
@@ -26,13 +27,13 @@ module _ {u : Unit {0}} (i : Image) (size s n : ℕ) (sized : size ≡ length i)
   pub some_fence : 0 < n → Ok (Some s) ≡ fence_result (all_fenced i) s n
   some_fence h =
       let f = range_fits size s n lies in
-      rw (lies_inside, fence_first i s n h (omega arith)) refl
+      rw (lies_inside, fence_first fence (λ c. refl) i s n h (omega arith)) refl
 
 module _ {u : Unit {0}} (i : Image) (size s : ℕ) (bs : List ℕ) (sized : size ≡ length i) (lies : Ok u ≡ range_result size s (length bs)) where
   pub refused_sealed : 0 < length bs → Err Fenced ≡ write_result (all_fenced i) s bs
   refused_sealed h =
       let f = range_fits size s (length bs) lies in
-      rw (lies_inside i size s (length bs) sized lies, fence_first i s (length bs) h (omega arith)) refl
+      rw (lies_inside i size s (length bs) sized lies, fence_first fence (λ c. refl) i s (length bs) h (omega arith)) refl
 
   pub stays_sealed : 0 < length bs → all_fenced i ≡ written (all_fenced i) s bs
   stays_sealed h = ap (λ r. if_accepted r (overwritten (all_fenced i) s bs) (all_fenced i)) (refused_sealed h)

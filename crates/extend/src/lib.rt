@@ -17,7 +17,7 @@ pub use sealed::Sealed;
 #[cfg(test)]
 mod tests {
     use super::*;
-    use board::{Board, Plain};
+    use board::{Board, Plain, ReadBoard};
     use chip::ParkedChip;
     use datasheet::{Command, Refusal};
     use spi_bus::{SpiBus, SteppedBus};

@@ -3,7 +3,7 @@ ghost use Rattle.std.specs.Prelude.{◌≡◌};
 ghost use Rattle.extend.specs.declared.reading.ReadingRefusal.TheVariants.{Board as OfBoard};
 ghost use Rattle.extend.specs.Readings.{reading_number, reading_result};
 
-use board::Board;
+use board::ReadBoard;
 use datasheet::Refusal;
 use thiserror::Error;
 
@@ -43,7 +43,7 @@ impl From<ReadingRefusal> for u8 {
 
 /// The byte at a place of a board. It is refused by 4 where the board has no such place, and then by 200 where the cell holds
 /// FFh.
-pub fn reading_at<B: Board>(board: &mut B, place: usize) -> Result<u8, ReadingRefusal>
+pub fn reading_at<B: ReadBoard>(board: &mut B, place: usize) -> Result<u8, ReadingRefusal>
     ensures answer { result ≡ reading_result (B.image board.old) place }
     ensures same { B.image board.new ≡ B.image board.old }
     ensures beneath { B.beneath board.new ≡ B.beneath board.old }

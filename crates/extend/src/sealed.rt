@@ -4,7 +4,7 @@ ghost use Rattle.std.proofs.Common.{ap};
 ghost use Rattle.extend.specs.Seals.{all_fenced, sealed_image, sealed_lent, sealed_beneath, sealed_shows};
 ghost use Rattle.extend.specs.SealedFacts.{sealed_few, sealed_standing};
 
-use board::{Board, check_range};
+use board::{Board, ReadBoard, check_range};
 use datasheet::Refusal;
 
 /// The cells of a board, all of them fenced: it can be read and not be written.
@@ -13,7 +13,7 @@ pub struct Sealed<B> {
     below: B,
 }
 
-impl<B: Board> Sealed<B> {
+impl<B: ReadBoard> Sealed<B> {
     /// Seals a board.
     pub fn new(below: B) -> Sealed<B>
         ensures below { result.below ≡ below }
@@ -22,7 +22,7 @@ impl<B: Board> Sealed<B> {
     }
 }
 
-impl<B: Board> Board for Sealed<B> {
+impl<B: ReadBoard> ReadBoard for Sealed<B> {
     ghost image = { sealed_image B.image };
 
     ghost few = { λ s. sealed_few (B.image s.below) (B.few s.below) };
@@ -54,13 +54,15 @@ impl<B: Board> Board for Sealed<B> {
         self.below.size()
     }
 
+    fn read(&mut self, start: usize, buffer: &mut [u8]) -> Result<(), Refusal> {
+        self.below.read(start, buffer)
+    }
+}
+
+impl<B: ReadBoard> Board for Sealed<B> {
     fn first_fence(&mut self, start: usize, count: usize) -> Result<Option<usize>, Refusal> {
         check_range(start, count, self.below.size())?;
         if count > 0 { Ok(Some(start)) } else { Ok(None) }
-    }
-
-    fn read(&mut self, start: usize, buffer: &mut [u8]) -> Result<(), Refusal> {
-        self.below.read(start, buffer)
     }
 
     fn write(&mut self, start: usize, bytes: &[u8]) -> Result<(), Refusal> {

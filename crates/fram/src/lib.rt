@@ -1,12 +1,13 @@
-//! The C entry points: both script runs on numbers and byte buffers (include/fram.h).
+//! The C entry points: the script runs on numbers and byte buffers (include/fram.h).
 //!
 //! What it promises: that of the reports. Each function is total: whatever the numbers are, and however long the buffers.
 #![tactic(auto)]
 
+ghost use Rattle.std.specs.Prelude.{◌≡◌};
 ghost use Rattle.script_reports.specs.Marks.{marks_by};
-ghost use Rattle.script_reports.specs.Visits.{Visits, on_chip, on_board};
+ghost use Rattle.script_reports.specs.Visits.{Visits, on_chip, on_board, on_dump};
 
-use script_reports::{Report, board_report, chip_report, marks};
+use script_reports::{Report, board_report, chip_report, dump_report, marks};
 
 /// The chip run, on the pins of the chip.
 #[unsafe(no_mangle)]
@@ -60,4 +61,13 @@ pub extern "C" fn fram_board_run(
         script,
         answers,
     )
+}
+
+/// The run over a dump, memory that nobody may write.
+#[unsafe(no_mangle)]
+pub extern "C" fn fram_dump_run(memory: &[u8], script: &[u8], answers: &mut [u8]) -> Report
+    ensures { record { report = result; memory = memory.now; answers = answers.new } ≡
+        on_dump memory.now script.now answers.old }
+{
+    dump_report(memory, script, answers)
 }

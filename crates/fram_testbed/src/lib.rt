@@ -12,7 +12,7 @@ ghost use Rattle.script_reports.specs.Marks.{marks_by};
 ghost use Rattle.fram_testbed.specs.Transfers.{number_of, Transfers};
 ghost use Rattle.fram_testbed.specs.Ways.{WayBy};
 
-use board::{Board, Plain};
+use board::{Plain, ReadBoard};
 use datasheet::Refusal;
 use script_reports::{marks, park};
 use spi_bus::{Setting, Way};

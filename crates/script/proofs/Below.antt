@@ -9,7 +9,7 @@ use Rattle.board_model.specs.Results.{write_result, if_accepted}
 use Rattle.board_model.specs.Beneath.{Standing}
 use Rattle.board_model.specs.Calls.{BoardCall, size, fence, read, write, BoardAnswer, done, answer_of, answer, after, after_below}
 use Rattle.board_model.proofs.Below.{shows_after, by_image}
-use Rattle.board.specs.declared.Board.{Ghosts}
+use Rattle.board.specs.declared.ReadBoard.{Ghosts}
 use Rattle.script.specs.declared.run.Counts.{Counts}
 use Rattle.script.specs.Steps.{board_kinds}
 use Rattle.script.specs.Reading.{Reading, reads, stops, read_script}

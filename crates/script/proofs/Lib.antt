@@ -5,3 +5,4 @@ pub mod Fences
 pub mod Going
 pub mod Whole
 pub mod Below
+pub mod ReadRuns

@@ -2,7 +2,7 @@
 use Rattle.std.specs.Prelude.{◌≡◌, ℕ, ◌+◌, ◌<◌, ◌≤◌, ◌⊎◌, true, List, [], ◌∷◌, length}
 use Rattle.board_model.specs.Images.{Image, part}
 use Rattle.board_model.specs.Calls.{BoardCall, size, fence, read, write, BoardAnswer, refused, after, answer}
-use Rattle.board.specs.declared.Board.{Ghosts}
+use Rattle.board.specs.declared.ReadBoard.{Ghosts}
 use Rattle.script.specs.Steps.{board_kinds}
 use Rattle.script.specs.Reading.{reads, read_script}
 use Rattle.script.specs.Runs.{board_outcome, outcome_below}

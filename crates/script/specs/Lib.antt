@@ -5,6 +5,7 @@ pub mod Machines
 pub mod Laws
 pub mod Runs
 pub mod Kept
+pub mod ReadRuns
 pub mod Views
 pub mod StepCalls
 pub mod Visits

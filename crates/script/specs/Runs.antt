@@ -7,7 +7,7 @@ use Rattle.datasheet.specs.Machines.{left_by}
 use Rattle.datasheet.specs.Calls.{ChipState}
 use Rattle.board_model.specs.Images.{Image}
 use Rattle.script.specs.declared.run.Counts.{Counts}
-use Rattle.script.specs.Steps.{Kinds, chip_kinds, board_kinds}
+use Rattle.script.specs.Steps.{Kinds, chip_kinds, board_kinds, read_kinds}
 use Rattle.script.specs.Reading.{Reading, reads, stops, read_script}
 use Rattle.script.specs.Machines.{Machine, replies, chip_machine, board_machine, machine_below}
 
@@ -59,6 +59,10 @@ outcome K = outcome_by chip_kinds (chip_machine K)
 abbrev pub board_outcome : Image → List ℕ → List ℕ → Outcome Image
 board_outcome = outcome_by board_kinds board_machine
 
--- the same, by what stands below the board
+-- the run over a reading board: the board run of sizes and reads
+abbrev pub read_outcome : Image → List ℕ → List ℕ → Outcome Image
+read_outcome = outcome_by read_kinds board_machine
+
+-- the board run, by what stands below the board
 abbrev pub outcome_below : {G : Type 0} → (G → Image) → (G → ℕ → List ℕ → G) → G → List ℕ → List ℕ → Outcome G
 outcome_below shows put = outcome_by board_kinds (machine_below shows put)

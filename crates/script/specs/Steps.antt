@@ -1,6 +1,6 @@
 -- Steps. A script is a row of steps, each one byte of kind, then a body whose length the kind fixes. Numbers
 -- go highest byte first.
-use Rattle.std.specs.Prelude.{ℕ, ◌+◌, ◌*◌, if◌then◌else◌, List, length, take, drop, Some, None, Option, ◌==◌, nat_le, slice_index}
+use Rattle.std.specs.Prelude.{ℕ, ◌+◌, ◌*◌, ◌||◌, if◌then◌else◌, List, length, take, drop, Some, None, Option, ◌==◌, nat_le, slice_index}
 use Rattle.datasheet.specs.Calls.{ChipCall, ChipCall.sample, cycle}
 use Rattle.board_model.specs.Calls.{BoardCall, size, fence, read, write}
 
@@ -82,3 +82,12 @@ board_call bytes =
 
 abbrev pub board_kinds : Kinds BoardCall
 board_kinds = record { body = board_body; call = board_call }
+
+-- ## The run over a reading board
+
+-- of the kinds of the board run size and the read of eight cells alone
+abbrev pub read_body : ℕ → Option ℕ
+read_body kind = if kind == 3 || kind == 5 then board_body kind else None
+
+abbrev pub read_kinds : Kinds BoardCall
+read_kinds = record { body = read_body; call = board_call }

@@ -8,11 +8,13 @@ ghost use Rattle.script.specs.Runs.{CameTo, outcome_by};
 
 mod boards;
 mod chips;
+mod reads;
 mod steps;
 
 pub use boards::board_run;
 pub use chips::chip_run;
 use datasheet::Refusal;
+pub use reads::read_run;
 use steps::{Fault, Steps, count_steps};
 
 /// The counts that a run answers: its steps, and the answer bytes that they put into the buffer.
@@ -89,7 +91,7 @@ trait Runs<'s> {
 
     ghost machine: { Machine State Call Answer };
 
-    // What it was given: no call puts another in the place of it.
+    // What no call changes: what it was given, and of a reading board all that stands below it.
     ghost Lent: { Type 0 };
 
     ghost lent: { Self → Lent };

@@ -1,3 +1,4 @@
 pub mod OnBoard
 pub mod Parked
 pub mod FixedChip
+pub mod DumpsRead

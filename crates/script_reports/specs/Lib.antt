@@ -2,4 +2,5 @@ pub mod Marks
 pub mod Reports
 pub mod Shown
 pub mod Visits
+pub mod DumpOfChip
 pub mod Programs

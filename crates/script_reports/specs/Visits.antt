@@ -11,7 +11,8 @@ use Rattle.datasheet.specs.Chips.{whole}
 use Rattle.datasheet.specs.Calls.{ChipState, powered}
 use Rattle.chip.specs.declared.chip.ParkedChip.{ParkedChip}
 use Rattle.board_model.specs.Images.{Image, bytes_of}
-use Rattle.script.specs.Runs.{Outcome, outcome, board_outcome}
+use Rattle.board_model.specs.Layers.{dumped}
+use Rattle.script.specs.Runs.{Outcome, outcome, board_outcome, read_outcome}
 use Rattle.script_reports.specs.declared.Report.{Report}
 use Rattle.script_reports.specs.Reports.{report_of}
 use Rattle.script_reports.specs.Shown.{shown_of}
@@ -39,6 +40,12 @@ abbrev pub on_board : Sheet → ℕ → List ℕ → List ℕ → List ℕ → V
 on_board s stored memory script answers =
     let o : Outcome Image = board_outcome (shown_of s memory stored) script answers in
     record { report = report_of o.result stored; memory = bytes_of o.left; answers = o.buffer }
+
+-- the run over a dump, which is left as it is and has no stored bits
+abbrev pub on_dump : List ℕ → List ℕ → List ℕ → Visit
+on_dump memory script answers =
+    let o : Outcome Image = read_outcome (dumped memory) script answers in
+    record { report = report_of o.result 0; memory = memory; answers = o.buffer }
 
 -- a visit is refused where there is no sheet, then where the memory does not fit it; else the run decides.
 -- Bits 1 and 0 of the stored byte are dropped

@@ -1,5 +1,5 @@
-//! Both script runs on numbers and byte buffers: a chip is powered over lent memory, a script is run on it or on the board that
-//! a driver makes of it, and power is taken away again.
+//! The script runs on numbers and byte buffers: a chip is powered over lent memory, a script is run on it or on the board that
+//! a driver makes of it, and power is taken away again; or a script is run over a dump, which nobody may write.
 //!
 //! What it promises: report, lent memory and answer buffer are one definition's value of what was passed; a refused run changes
 //! nothing.
@@ -16,11 +16,13 @@ ghost use Rattle.script_reports.specs.Shown.{shown_of};
 ghost use Rattle.script_reports.specs.Visits.{Visits, Parks, on_chip, on_board};
 
 mod boards;
+mod dumps;
 mod programs;
 
 use boards::run_stepped;
 use chip::ParkedChip;
 use datasheet::{Marks, Refusal, Sheet};
+pub use dumps::dump_report;
 pub use programs::{ANSWER_BYTES, SCRIPT_BYTES, Target, output};
 use script::{Counts, chip_visit};
 

@@ -33,7 +33,7 @@ power_small (suc (suc (suc (suc zero)))) h = omega arith
 power_small (suc (suc (suc (suc (suc zero))))) h = omega arith
 power_small (suc (suc (suc (suc (suc (suc d)))))) h = absurd (omega arith)
 
-few_by : (f : Bool) (s : Sheet) (r : Record) → f ≡ fits s r.memory → length (shown f s r) ≤ most
+pub few_by : (f : Bool) (s : Sheet) (r : Record) → f ≡ fits s r.memory → length (shown f s r) ≤ most
 few_by false s r e = omega arith
 few_by true s r e =
     let small = power_small (density_of s.t) s.known.1 in

@@ -8,7 +8,7 @@ ghost use Rattle.spi_driver.specs.Sessions.{SentByTable, probing, surveying, rea
 
 use crate::session::{read_cells, write_cells};
 use crate::survey::{probe, survey};
-use board::{Board, check_range};
+use board::{Board, ReadBoard, check_range};
 use datasheet::Refusal;
 use spi_bus::SpiBus;
 
@@ -49,7 +49,7 @@ impl<B: SpiBus> Driver<B> {
 }
 
 // Each call says how it leaves the bus (`bus`).
-impl<B: SpiBus> Board for Driver<B> {
+impl<B: SpiBus> ReadBoard for Driver<B> {
     ghost use Rattle.spi_driver.specs.Views.{driver_image, driver_lent, driver_beneath};
     ghost use Rattle.spi_driver.specs.Beneath.{DriverBeneath, driver_shows, driver_put, driver_byte_at};
     ghost use Rattle.spi_driver.specs.Standing.{driver_few, driver_standing};
@@ -95,22 +95,6 @@ impl<B: SpiBus> Board for Driver<B> {
         survey(&mut self.bus).size
     }
 
-    fn first_fence(&mut self, start: usize, count: usize) -> Result<Option<usize>, Refusal>
-        ensures answer { result ≡ fence_result (driver_image B.meaning self.old) start count }
-        ensures same { driver_image B.meaning self.new ≡ driver_image B.meaning self.old }
-        ensures beneath { driver_beneath B.meaning B.lent self.new ≡
-            driver_beneath B.meaning B.lent self.old }
-        ensures lent { driver_lent B.meaning B.lent self.new ≡
-            driver_lent B.meaning B.lent self.old }
-        ensures bus { B.meaning self.new.bus ≡ B.meaning self.old.bus }
-        ensures exchanged { B.trace self.new.bus ≡
-            left_by B.traced (B.trace self.old.bus) (surveying (B.meaning self.old.bus)) }
-    {
-        let cells = survey(&mut self.bus);
-        check_range(start, count, cells.size)?;
-        Ok(cells.first_fence(start, count))
-    }
-
     fn read(&mut self, start: usize, buffer: &mut [u8]) -> Result<(), Refusal>
         ensures answer { result ≡
             read_result (driver_image B.meaning self.old) start (length buffer.old) }
@@ -131,6 +115,27 @@ impl<B: SpiBus> Board for Driver<B> {
             read_cells(&mut self.bus, start, buffer);
         }
         Ok(())
+    }
+}
+
+impl<B: SpiBus> Board for Driver<B> {
+    ghost use Rattle.spi_driver.specs.Views.{driver_image, driver_lent, driver_beneath};
+    ghost use Rattle.spi_driver.specs.Beneath.{driver_put};
+
+    fn first_fence(&mut self, start: usize, count: usize) -> Result<Option<usize>, Refusal>
+        ensures answer { result ≡ fence_result (driver_image B.meaning self.old) start count }
+        ensures same { driver_image B.meaning self.new ≡ driver_image B.meaning self.old }
+        ensures beneath { driver_beneath B.meaning B.lent self.new ≡
+            driver_beneath B.meaning B.lent self.old }
+        ensures lent { driver_lent B.meaning B.lent self.new ≡
+            driver_lent B.meaning B.lent self.old }
+        ensures bus { B.meaning self.new.bus ≡ B.meaning self.old.bus }
+        ensures exchanged { B.trace self.new.bus ≡
+            left_by B.traced (B.trace self.old.bus) (surveying (B.meaning self.old.bus)) }
+    {
+        let cells = survey(&mut self.bus);
+        check_range(start, count, cells.size)?;
+        Ok(cells.first_fence(start, count))
     }
 
     fn write(&mut self, start: usize, bytes: &[u8]) -> Result<(), Refusal>

@@ -13,7 +13,7 @@ ghost use Rattle.spi_driver.specs.Left.{samples, left_in};
 ghost use Rattle.spi_driver.specs.Transfers.{transferred, transferred_parked, transfer_calls};
 
 use crate::driver::Driver;
-use board::Board;
+use board::{Board, ReadBoard};
 use chip::{Chip, ParkedChip, Pins};
 use datasheet::Refusal;
 use spi_bus::{BusWork, Setting, SpiBus, Way, work_over, work_over_line};

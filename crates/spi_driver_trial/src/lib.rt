@@ -4,7 +4,7 @@
 
 #[cfg(test)]
 mod tests {
-    use board::Board;
+    use board::{Board, ReadBoard};
     use chip::{Chip, ParkedChip, Pins, Stepped};
     use datasheet::{Part, Refusal, Sample, Sheet};
     use spi_bus::{Line, Setting, SpiBus, SteppedBus, Way};

@@ -10,7 +10,7 @@ use oracle::bus::Mode;
 use oracle::ffi;
 use oracle::generate::Run;
 use oracle::rng::Rng;
-use oracle::script::{Numbers, board_run_by_driver, chip_run};
+use oracle::script::{Numbers, Report, board_run_by_driver, chip_run};
 use oracle::transfer::{Order, Way, read_plain, transfer};
 
 const ROUNDS: u32 = 30;
@@ -87,11 +87,10 @@ fn line(name: &str, unit: &str, units: usize, (library, model): (Duration, Durat
     );
 }
 
-fn runs(rounds: u32, name: &str, unit: &str, run: Run, script: Vec<u8>) {
-    let model = match run {
-        Run::Chip => chip_run,
-        Run::Board => board_run_by_driver,
-    };
+/// A run of the model on a chip.
+type ModelRun = fn(&Numbers, &mut [u8], &[u8], &mut [u8]) -> Report;
+
+fn runs(rounds: u32, name: &str, unit: &str, run: Run, model: ModelRun, script: Vec<u8>) {
     let mut memory = [vec![0; CELLS], vec![0; CELLS]];
     let mut answers = [vec![0; 9 * script.len()], vec![0; 9 * script.len()]];
     let [m, n] = &mut memory;
@@ -143,9 +142,9 @@ fn main() -> ExitCode {
     println!("MB85RS256B, the least of {rounds} rounds in nanoseconds; the model's board run is by its own driver");
     println!("| task | for each | library | model | ratio |");
     println!("|---|---|---|---|---|");
-    runs(rounds, "chip run: WRITE of every cell", "sample", Run::Chip, write_script(&bytes));
-    runs(rounds, "chip run: READ of every cell", "sample", Run::Chip, read_script());
-    runs(rounds, "board run: all kinds of steps", "step", Run::Board, board_script(&mut rng));
+    runs(rounds, "chip run: WRITE of every cell", "sample", Run::Chip, chip_run, write_script(&bytes));
+    runs(rounds, "chip run: READ of every cell", "sample", Run::Chip, chip_run, read_script());
+    runs(rounds, "board run: all kinds of steps", "step", Run::Board, board_run_by_driver, board_script(&mut rng));
     for (way, bus) in [
         (Way::Bytes, "stepped by bytes"),
         (Way::Line(Mode::Zero, 0), "line in mode 0"),

@@ -1,11 +1,12 @@
 // The board run: sizes, fence questions, reads and writes, on any board.
-ghost use Rattle.std.specs.Prelude.{◌≡◌, ◌≤◌, ◌+◌, ◌*◌, length, IfOk};
+ghost use Rattle.std.specs.Prelude.{◌≡◌, ◌≤◌, length, IfOk};
 ghost use Rattle.script.specs.Steps.{board_kinds, first};
-ghost use Rattle.script.specs.Replies.{three_bytes, place_bytes};
+ghost use Rattle.script.specs.Replies.{place_bytes};
 ghost use Rattle.script.specs.Runs.{CameTo, board_outcome, outcome_below};
 ghost use Rattle.script.specs.Laws.{ReadsExactly};
 ghost use Rattle.script.specs.Kept.{KeepsFenced, KeepsUnnamed, KeepsBeneath};
 
+use super::reads::{ReadStep, start_of, three_bytes};
 use super::steps::Fault;
 use super::{Answers, Counts, Runs, run};
 use board::Board;
@@ -15,29 +16,10 @@ use std::slice::from_ref;
 /// A step of the board run. The data bytes of a write stay a part of the script.
 #[derive(Drop)]
 pub(super) enum BoardStep<'s> {
-    Size,
+    Read(ReadStep),
     Fence { start: usize },
-    ReadEight { start: usize },
     WriteEight { start: usize, bytes: &'s [u8; 8] },
     WriteOne { start: usize, byte: &'s u8 },
-}
-
-/// The start that a step names in three bytes.
-fn start_of(high: u8, middle: u8, low: u8) -> usize
-    ensures { result ≡ 65536 * high + (256 * middle + low) }
-{
-    usize::from(high) * 65536 + (usize::from(middle) * 256 + usize::from(low))
-}
-
-/// A number in three bytes.
-fn three_bytes(number: usize) -> [u8; 3]
-    ensures { result ≡ three_bytes number }
-{
-    [
-        (number / 65536 % 256) as u8,
-        (number / 256 % 256) as u8,
-        (number % 256) as u8,
-    ]
 }
 
 /// A place in three bytes, or FFFFFFh for none.
@@ -87,14 +69,14 @@ impl<'s, B: Board> Runs<'s> for OnBoard<B> {
         ensures { first_of board_call_of result ≡ first board_kinds script.now }
     {
         match script {
-            [3, rest @ ..] => Ok((BoardStep::Size, rest)),
+            [3, rest @ ..] => Ok((BoardStep::Read(ReadStep::Size), rest)),
             [4, high, middle, low, rest @ ..] => {
                 let start = start_of(*high, *middle, *low);
                 Ok((BoardStep::Fence { start }, rest))
             }
             [5, high, middle, low, rest @ ..] => {
                 let start = start_of(*high, *middle, *low);
-                Ok((BoardStep::ReadEight { start }, rest))
+                Ok((BoardStep::Read(ReadStep::ReadEight { start }), rest))
             }
             // a pattern has one part of open length: the eight bytes are taken off it together
             [6, high, middle, low, tail @ ..] => match tail.split_first_chunk::<8>() {
@@ -115,10 +97,7 @@ impl<'s, B: Board> Runs<'s> for OnBoard<B> {
 
     fn carry_out(&mut self, step: BoardStep<'s>, answers: &mut Answers<'_>) {
         match step {
-            BoardStep::Size => {
-                let [high, middle, low] = three_bytes(self.board.size());
-                answers.put(&[0x83, high, middle, low]);
-            }
+            BoardStep::Read(step) => step.carry_out(&mut self.board, answers),
             BoardStep::Fence { start } => match self.board.first_fence(start, 8) {
                 Ok(place) => {
                     let [high, middle, low] = place_bytes(place);
@@ -126,16 +105,6 @@ impl<'s, B: Board> Runs<'s> for OnBoard<B> {
                 }
                 Err(refusal) => answers.put_refusal(refusal),
             },
-            BoardStep::ReadEight { start } => {
-                let mut cells = [0; 8];
-                match self.board.read(start, &mut cells) {
-                    Ok(()) => {
-                        let [a, b, c, d, e, f, g, h] = cells;
-                        answers.put(&[0x85, a, b, c, d, e, f, g, h]);
-                    }
-                    Err(refusal) => answers.put_refusal(refusal),
-                }
-            }
             BoardStep::WriteEight { start, bytes } => match self.board.write(start, bytes) {
                 Ok(()) => answers.put(&[0x86]),
                 Err(refusal) => answers.put_refusal(refusal),
@@ -164,7 +133,7 @@ pub fn board_run<B: Board>(
     ensures law { ReadsExactly board_kinds }
     ensures fences { KeepsFenced }
     ensures unnamed { KeepsUnnamed }
-    ensures unaltered { KeepsBeneath B.Board }
+    ensures unaltered { KeepsBeneath B.ReadBoard }
 {
     let mut on = OnBoard { board };
     run(&mut on, script, buffer)

@@ -21,11 +21,11 @@ returns g c =
     let bs = c.args.bytes.now in
     let split = c.split_at.ensures in
     let below =
-    both_left bs f split.front split.back g.A.Board.shows g.A.Board.put g.B.Board.put (g.A.Board.shown w.first)
+    both_left bs f split.front split.back g.A.ReadBoard.shows g.A.ReadBoard.put g.B.ReadBoard.put (g.A.ReadBoard.shown w.first)
     (c.first_fence.ensures.beneath ∙ told.beneath_first) (c.first_fence-2.ensures.beneath ∙ told.beneath_second) c.write.ensures.beneath c.write-2.ensures.beneath in
     record {
       answer = c.write-2.ensures.answer ∙ write_answered bs f split.front split.back;
-      after = image_written (join_standing g.A.Board.standing g.B.Board.standing) c.args.start bs (join_shown (g.A.Board.shown w.first) (g.B.Board.shown w.second)) (join_shown (g.A.Board.shown _) (g.B.Board.shown _)) below;
+      after = image_written (join_standing g.A.ReadBoard.standing g.B.ReadBoard.standing) c.args.start bs (join_shown (g.A.ReadBoard.shown w.first) (g.B.ReadBoard.shown w.second)) (join_shown (g.A.ReadBoard.shown _) (g.B.ReadBoard.shown _)) below;
       beneath = below;
       lent = λ i. ((c.write.ensures.lent ∙ c.first_fence.ensures.lent ∙ told.lent_first) i, (c.write-2.ensures.lent ∙ c.first_fence-2.ensures.lent ∙ told.lent_second) i);
     }
@@ -43,7 +43,7 @@ returns-then-is_some g c =
     let below = both_kept _ refused (c.first_fence.ensures.beneath ∙ told.beneath_first) (c.first_fence-2.ensures.beneath ∙ told.beneath_second) in
     record {
       answer = sym refused;
-      after = image_written (join_standing g.A.Board.standing g.B.Board.standing) c.args.start bs (join_shown (g.A.Board.shown w.first) (g.B.Board.shown w.second)) (join_shown (g.A.Board.shown _) (g.B.Board.shown _)) below;
+      after = image_written (join_standing g.A.ReadBoard.standing g.B.ReadBoard.standing) c.args.start bs (join_shown (g.A.ReadBoard.shown w.first) (g.B.ReadBoard.shown w.second)) (join_shown (g.A.ReadBoard.shown _) (g.B.ReadBoard.shown _)) below;
       beneath = below;
       lent = λ i. ((c.first_fence.ensures.lent ∙ told.lent_first) i, (c.first_fence-2.ensures.lent ∙ told.lent_second) i);
     }

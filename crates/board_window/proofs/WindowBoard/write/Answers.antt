@@ -8,16 +8,16 @@ use Rattle.board_window.proofs.WindowBoard.write.Goals as goal
 pub returns-clause-answer : goal.returns-clause-answer
 returns-clause-answer g c =
     let w = c.args.self.now in
-    c.write.ensures.answer ∙ win_answer w.offset w.count c.args.start (g.B.Board.image w.below) c.args.bytes.now c.in_ok-base.ensures.base c.in_ok-base.ensures.below
+    c.write.ensures.answer ∙ win_answer w.offset w.count c.args.start (g.B.ReadBoard.image w.below) c.args.bytes.now c.in_ok-base.ensures.base c.in_ok-base.ensures.below
 
 pub returns-clause-beneath : goal.returns-clause-beneath
 returns-clause-beneath g c =
     let w = c.args.self.now in
     let told = c.in_ok-base.ensures in
-    let left = win_put w.offset w.count c.args.start (g.B.Board.image w.below) c.args.bytes.now told.base told.below g.B.Board.shows g.B.Board.put told.beneath (g.B.Board.shown w.below) c.write.ensures.beneath in
+    let left = win_put w.offset w.count c.args.start (g.B.ReadBoard.image w.below) c.args.bytes.now told.base told.below g.B.ReadBoard.shows g.B.ReadBoard.put told.beneath (g.B.ReadBoard.shown w.below) c.write.ensures.beneath in
     cc (left, told.offset, told.count)
 
 pub returns-clause-after : goal.returns-clause-after
 returns-clause-after g c =
     let w = c.args.self.now in
-    image_written (window_standing g.B.Board.standing) c.args.start c.args.bytes.now (ap (windowed w.offset w.count) (g.B.Board.shown w.below)) (ap (windowed _ _) (g.B.Board.shown _)) (returns-clause-beneath g c)
+    image_written (window_standing g.B.ReadBoard.standing) c.args.start c.args.bytes.now (ap (windowed w.offset w.count) (g.B.ReadBoard.shown w.below)) (ap (windowed _ _) (g.B.ReadBoard.shown _)) (returns-clause-beneath g c)

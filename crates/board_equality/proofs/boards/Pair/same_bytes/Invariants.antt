@@ -7,5 +7,5 @@ abbrev pub invariant-loop-start : goal.invariant-loop-start
 invariant-loop-start g l = record {
   kept : Untouched l.fn.self l.self;
   whole : l.start-end ≡ l.self.size;
-  so_far : take l.start (bytes_of (g.P.Board.image l.fn.self.left)) ≡ take l.start (bytes_of (g.Q.Board.image l.fn.self.right));
+  so_far : take l.start (bytes_of (g.P.ReadBoard.image l.fn.self.left)) ≡ take l.start (bytes_of (g.Q.ReadBoard.image l.fn.self.right));
 }

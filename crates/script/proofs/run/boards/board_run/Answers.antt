@@ -4,8 +4,8 @@ use Rattle.script.proofs.run.boards.board_run.Goals as goal
 
 pub returns-clause-outcome : goal.returns-clause-outcome
 returns-clause-outcome g c =
-    let came = came_by_image g.B.Board.standing c.args.script.now c.args.buffer.now (g.B.Board.shown _) (g.B.Board.shown _) c.run.ensures.outcome in
+    let came = came_by_image g.B.ReadBoard.standing c.args.script.now c.args.buffer.now (g.B.ReadBoard.shown _) (g.B.ReadBoard.shown _) c.run.ensures.outcome in
     search rules
 
 pub returns-clause-unaltered : goal.returns-clause-unaltered
-returns-clause-unaltered g c = keeps_beneath g.B.Board
+returns-clause-unaltered g c = keeps_beneath g.B.ReadBoard
