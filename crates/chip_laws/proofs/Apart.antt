@@ -1,6 +1,5 @@
 -- Two deselected fitted chips of one sheet have equal records exactly when no list of calls that can be sent tells them apart.
-use Rattle.std.proofs.Common.{◌≡◌, ℕ, ◌+◌, ◌-◌, ◌%◌, ◌^◌, ◌<◌, ◌≤◌, ◌↔◌, Bool, true, false, cond, eqb, List, [], ◌∷◌, ◌++◌, length, get_or, All, take, drop, sym, refl, ap, ◌∙◌, subst, lt_trans, add-zero, mod-eq_of_lt, arith, Option}
-use native.Mathlib.Nat.{mod-mod}
+use Rattle.std.proofs.Common.{◌≡◌, ℕ, ◌+◌, ◌-◌, ◌%◌, ◌^◌, ◌<◌, ◌≤◌, ◌↔◌, Bool, true, false, cond, eqb, List, [], ◌∷◌, ◌++◌, length, get_or, All, take, drop, sym, refl, ap, ◌∙◌, subst, lt_trans, mod-eq_of_lt, arith, Option}
 use Rattle.std.proofs.lemmas.Nat.{pow_below}
 use Rattle.std.proofs.lemmas.List.{ext_get_or, length_push}
 use Rattle.std.proofs.lemmas.List.Elements.{All-nil, All-cons}
@@ -95,7 +94,7 @@ reading_status s r = simp bit_is_read
 
 reading_cell : (s : Sheet) (r : Record) (i : ℕ) →
     take 8 (drop 24 (reading s r [] HighZ (read i)))
-    ≡ bits_of 8 (get_or r.memory ((number (bits_of 16 i) % cells s + 0) % cells s) 0)
+    ≡ bits_of 8 (get_or r.memory (number (bits_of 16 i) % cells s) 0)
 reading_cell s r i = simp bit_is_read
 
 -- ## What three lists of calls tell
@@ -135,10 +134,10 @@ module _ (s : Sheet) (r : Record) (f : Good s r) where
   asleep_seen true = refl
   asleep_seen false = rw status_seen (grind arith)
 
-  place_is : (i : ℕ) → i < cells s → (number (bits_of 16 i) % cells s + 0) % cells s ≡ i
+  place_is : (i : ℕ) → i < cells s → number (bits_of 16 i) % cells s ≡ i
   place_is i l =
       let b : cells s < 2 ^ 16 = pow_below (10 + s.t % 32) 16 (omega (arith, s.known)) in
-      rw (number_bits_of 16 i, mod-eq_of_lt (lt_trans l b), add-zero (i % cells s), mod-mod i (cells s)) (mod-eq_of_lt l)
+      rw (number_bits_of 16 i, mod-eq_of_lt (lt_trans l b)) (mod-eq_of_lt l)
 
   cell_seen : (i : ℕ) → i < cells s → seen 24 (answers whole (resting s (waking r)) (session (read i))) ≡ get_or r.memory i 0
   cell_seen i l =

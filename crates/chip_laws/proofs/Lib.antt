@@ -1,5 +1,6 @@
 pub mod Bits
 pub mod Simulation
 pub mod Follow
+pub mod Rolls
 pub mod Stays
 pub mod Apart

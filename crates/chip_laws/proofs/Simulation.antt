@@ -1,6 +1,6 @@
 -- What a bounded chip keeps of a session follows the session bit by bit, and the rules read no more of it.
-use Rattle.std.proofs.Common.{◌≡◌, ℕ, ◌+◌, ◌-◌, ◌*◌, ◌/◌, ◌%◌, ◌<◌, ◌≤◌, Bool, true, false, cond, ltb, leb, ◌⊎◌, List, [], ◌∷◌, ◌++◌, length, take, drop, sym, refl, ap, ◌∙◌, inl, inr, add_assoc, arith, Some, None, Option}
-use native.Mathlib.Nat.{zero-mod, mod-add-mod, mod-add-div', add-mul-mod_self_right, mod-mod}
+use Rattle.std.proofs.Common.{◌≡◌, ℕ, ◌+◌, ◌-◌, ◌*◌, ◌/◌, ◌%◌, ◌<◌, ◌≤◌, Bool, true, false, cond, ltb, leb, ◌⊎◌, List, [], ◌∷◌, ◌++◌, length, take, drop, sym, refl, ap, ◌∙◌, inl, inr, add-one, arith, Some, None, Option}
+use native.Mathlib.Nat.{zero-mod, mod-add-div', add-mul-mod_self_right}
 use Rattle.std.proofs.lemmas.List.{length_push, drop_all}
 use Rattle.std.proofs.lemmas.Bool.{cases_lt, lt-ltb, le-ltb}
 use Rattle.datasheet.specs.declared.sheet.Sheet.{Sheet}
@@ -11,7 +11,8 @@ use Rattle.datasheet.specs.Bits.{bit, number, byte_after}
 use Rattle.datasheet.specs.Sheets.{cells}
 use Rattle.datasheet.specs.Records.{Record}
 use Rattle.datasheet.specs.Commands.{command_of, command_at, first_data}
-use Rattle.datasheet.specs.Sessions.{command, address, cell_at}
+use Rattle.datasheet.specs.Places.{next_place, places_on}
+use Rattle.datasheet.specs.Sessions.{command, address, data_bytes, cell_at}
 use Rattle.datasheet.specs.Rises.{effect, after_rise}
 use Rattle.datasheet.specs.Falls.{shown, after_fall}
 use Rattle.datasheet.specs.Ends.{ended, after_end}
@@ -74,14 +75,15 @@ turned : (c : Option Command) (n : ℕ) →
     (n + 1 - first_data c) / 8 ≡ cond (turns (first_data c) (counted n)) ((n - first_data c) / 8 + 1) ((n - first_data c) / 8)
 turned c n = grind arith
 
-step_mod : (g : Bool) (a q m : ℕ) → (a + cond g (q + 1) q) % m ≡ cond g (((a + q) % m + 1) % m) ((a + q) % m)
-step_mod true a q m = rw (← add_assoc a q 1) (sym (mod-add-mod (a + q) m 1))
-step_mod false a q m = refl
+one_on : (s : Sheet) (g : Bool) (a k : ℕ) →
+    places_on s a (cond g (k + 1) k) ≡ cond g (next_place s (places_on s a k)) (places_on s a k)
+one_on s true a k = ap (places_on s a) (add-one k)
+one_on s false a k = refl
 
 cell_early : (s : Sheet) (c : Option Command) (bits : List Bool) → length bits ≤ 24 → cell_at s (first_data c) bits ≡ address s bits
 cell_early s c bits h =
-    let z : address s bits + (length bits - first_data c) / 8 ≡ address s bits = grind arith in
-    rw z (mod-mod (number (take 16 (drop 8 bits))) (cells s))
+    let z : data_bytes (first_data c) bits ≡ 0 = grind arith in
+    ap (places_on s (address s bits)) z
 
 place_more : (s : Sheet) (bits : List Bool) (b : Bool) →
     cell_at s (first_data (command s (bits ++ b ∷ []))) (bits ++ b ∷ []) ≡ moved s (kept s bits) b
@@ -102,7 +104,7 @@ place_more s bits b =
         cell_at s (first_data c') bits'
         ≡ cond (ltb n 8) (place c)
         (cond (ltb n 24) ((2 * place c + bit b) % cells s)
-        (cond (turns (first_data c) (counted n)) ((place c + 1) % cells s) (place c)))
+        (cond (turns (first_data c) (counted n)) (next_place s (place c)) (place c)))
     go c c' k l (inl e) f =
         rw (lt-ltb n 8 e, cell_early s c bits (omega arith), cell_early s c' bits' (omega arith))
         (address_early s bits' (omega arith) ∙ sym (address_early s bits (omega arith)))
@@ -111,7 +113,7 @@ place_more s bits b =
         (address_more s bits b e f)
     go c c' k l (inr e) (inr f) =
         rw (le-ltb n 8 e, le-ltb n 24 f, k e, address_kept s bits b f, l, turned c n)
-        (step_mod (turns (first_data c) (counted n)) (address s bits) ((n - first_data c) / 8) (cells s))
+        (one_on s (turns (first_data c) (counted n)) (address s bits) ((n - first_data c) / 8))
 
 -- no bit, and one bit more
 pub kept_none : (s : Sheet) → kept s [] ≡ cleared

@@ -1,1 +1,2 @@
+pub mod ByDivision
 pub mod Laws

@@ -9,6 +9,7 @@ use Rattle.datasheet.specs.Bits.{bit, number, byte_after}
 use Rattle.datasheet.specs.Sheets.{cells}
 use Rattle.datasheet.specs.Records.{Record}
 use Rattle.datasheet.specs.Commands.{command_at, first_data}
+use Rattle.datasheet.specs.Places.{next_place}
 use Rattle.datasheet.specs.Sessions.{command, cell_at}
 use Rattle.datasheet.specs.Rises.{effect}
 use Rattle.datasheet.specs.Falls.{shown}
@@ -61,8 +62,8 @@ moved s k b =
     if nat_lt k.count 8 then k.place
     -- bits 9 to 24 are shifted in
     else if nat_lt k.count 24 then (2 * k.place + bit b) % cells s
-    -- each whole data byte leads one cell on
-    else if turns (first_data (command_in s k)) k.count then (k.place + 1) % cells s
+    -- each whole data byte moves it to the place one byte on
+    else if turns (first_data (command_in s k)) k.count then next_place s k.place
     else k.place
 
 -- one bit more

@@ -10,6 +10,7 @@ pub mod Memory
 pub mod Records
 pub mod Protection
 pub mod Commands
+pub mod Places
 pub mod Sessions
 pub mod Rises
 pub mod Falls

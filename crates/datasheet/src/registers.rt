@@ -73,14 +73,13 @@ impl Registers {
     fn moved(self, sheet: Sheet, bit: bool) -> u16
         ensures { result ≡ moved sheet self bit }
     {
-        let place = usize::from(self.place);
-        // a place is below 2^15, the most cells of a sheet, so the casts lose nothing, and `try_from` could not fail
         if self.count < 8 {
             self.place
         } else if self.count < 24 {
-            ((2 * place + usize::from(bit)) % sheet.cells()) as u16
+            // a place is below 2^15, the most cells of a sheet, so the cast loses nothing, and `try_from` could not fail
+            ((2 * usize::from(self.place) + usize::from(bit)) % sheet.cells()) as u16
         } else if turns(self.first_data(sheet), self.count) {
-            ((place + 1) % sheet.cells()) as u16
+            sheet.next_place(self.place)
         } else {
             self.place
         }

@@ -34,6 +34,7 @@ impl Sheet {
     ghost use Rattle.datasheet.specs.Sheets.{Made, cells, fits, identity};
     ghost use Rattle.datasheet.specs.Parts.{SheetOf};
     ghost use Rattle.datasheet.specs.Commands.{command_of};
+    ghost use Rattle.datasheet.specs.Places.{next_place};
 
     /// The sheet with these ID bytes and marks; it is refused as no sheet where the density, the low five bits of t, is not from
     /// 1 to 5.
@@ -63,6 +64,14 @@ impl Sheet {
         ensures { result ≡ cells self }
     {
         1 << (10 + self.t % 32)
+    }
+
+    /// The place one byte on from a place in the memory: from the last cell it rolls over to cell 0.
+    pub fn next_place(self, place: u16) -> u16
+        ensures { result ≡ next_place self place }
+    {
+        // the remainder is below 2^15, the most cells of a sheet, so the cast loses nothing
+        ((usize::from(place) + 1) % self.cells()) as u16
     }
 
     /// The four bytes of the ID, as one number of 32 bits: the byte that is sent first is the highest.

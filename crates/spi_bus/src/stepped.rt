@@ -1,6 +1,7 @@
 // A chip stepped by bytes.
 ghost use Rattle.std.specs.Prelude.{◌≡◌, false, true, [], ◌∷◌};
 ghost use Rattle.datasheet.specs.Kept.{bounded};
+ghost use Rattle.chip_laws.specs.Laws.{RollsOver};
 ghost use Rattle.spi_model.specs.declared.mode.Mode.TheVariants.{Mode0};
 ghost use Rattle.spi_model.specs.declared.bus_call.BusCall.TheVariants.{Exchange};
 ghost use Rattle.spi_model.specs.Puts.{tracing, puts};
@@ -88,6 +89,7 @@ impl<C: Stepped> SpiBus for SteppedBus<C> {
             stepped_traced C.traced (stepped_trace C.chip C.trace self.old) (Exchange byte) }
         ensures lent { stepped_lent C.lent self.new ≡ stepped_lent C.lent self.old }
         ensures law { ByteAtOnce }
+        ensures rolls { RollsOver }
     {
         if self.in_session {
             self.chip.step(self.wp, byte)

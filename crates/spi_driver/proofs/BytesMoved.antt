@@ -6,10 +6,10 @@ use Rattle.datasheet.specs.declared.command.Command.{Command}
 use Rattle.datasheet.specs.declared.level.Level.TheVariants.{HighZ}
 use Rattle.datasheet.specs.Bits.{bit, bit_at}
 use Rattle.datasheet.specs.Levels.{read_as}
-use Rattle.datasheet.specs.Sheets.{cells}
 use Rattle.datasheet.specs.Records.{Record}
 use Rattle.datasheet.specs.Protection.{may_write}
 use Rattle.datasheet.specs.Commands.{command_at}
+use Rattle.datasheet.specs.Places.{next_place}
 use Rattle.datasheet.specs.Kept.{bounded, fall_kept}
 use Rattle.spi_model.specs.Moments.{Moment}
 use Rattle.spi_model.specs.Reads.{read_off}
@@ -105,7 +105,7 @@ module _ (s : Sheet) (wp : Bool) where
     abbrev pub reading : Phase → ℕ → ℕ → Bus Registers
     reading p a y = within s wp (awake memory stored w) (kept_at p 3 a y)
 
-    pub reads_on : (p : Phase) (a y x : ℕ) → x < 256 → exchanged bounded (reading p a y) x ≡ reading (onward p) ((a + 1) % cells s) x
+    pub reads_on : (p : Phase) (a y x : ℕ) → x < 256 → exchanged bounded (reading p a y) x ≡ reading (onward p) (next_place s a) x
     reads_on first a y x h = exchanged_is s wp (awake memory stored w) (kept_at first 3 a y) x refl h refl
     reads_on second a y x h = exchanged_is s wp (awake memory stored w) (kept_at second 3 a y) x refl h refl
     reads_on later a y x h = exchanged_is s wp (awake memory stored w) (kept_at later 3 a y) x refl h refl
@@ -121,14 +121,14 @@ module _ (s : Sheet) (wp : Bool) where
 
   module _ (memory : List ℕ) (stored : ℕ) where
     pub writes_on : (p : Phase) (a y x : ℕ) → x < 256 → may_write s (awake memory stored true) a ≡ true →
-        exchanged bounded (writing memory stored p a y) x ≡ writing (slice_set memory a x) stored (onward p) ((a + 1) % cells s) x
+        exchanged bounded (writing memory stored p a y) x ≡ writing (slice_set memory a x) stored (onward p) (next_place s a) x
     writes_on p a y x h may = go p
       where
         to : Phase → Bool → Bus Registers
         to q t =
-            within s wp (cond t (awake (slice_set memory a x) stored true) (awake memory stored true)) (kept_at q 2 ((a + 1) % cells s) x)
+            within s wp (cond t (awake (slice_set memory a x) stored true) (awake memory stored true)) (kept_at q 2 (next_place s a) x)
 
-        go : (q : Phase) → exchanged bounded (writing memory stored q a y) x ≡ writing (slice_set memory a x) stored (onward q) ((a + 1) % cells s) x
+        go : (q : Phase) → exchanged bounded (writing memory stored q a y) x ≡ writing (slice_set memory a x) stored (onward q) (next_place s a) x
         go first = exchanged_is s wp (awake memory stored true) (kept_at first 2 a y) x refl h refl ∙ ap (to second) may
         go second = exchanged_is s wp (awake memory stored true) (kept_at second 2 a y) x refl h refl ∙ ap (to later) may
         go later = exchanged_is s wp (awake memory stored true) (kept_at later 2 a y) x refl h refl ∙ ap (to later) may

@@ -15,6 +15,7 @@ use Rattle.datasheet.specs.Levels.{read_as, driven}
 use Rattle.datasheet.specs.Sheets.{cells, identity}
 use Rattle.datasheet.specs.Records.{Record, status}
 use Rattle.datasheet.specs.Commands.{command_at, command_of, first_data}
+use Rattle.datasheet.specs.Places.{next_place}
 use Rattle.datasheet.specs.Rises.{effect}
 use Rattle.datasheet.specs.Falls.{shown}
 use Rattle.datasheet.specs.Chips.{falling}
@@ -218,7 +219,7 @@ module _ (s : Sheet) (k : Registers) (x : ℕ) (e : k.count % 8 ≡ 0) (f : k.co
   within_last : taken s (within s k (take 7 (bits_of 8 x))) (bit_at 0 x) ≡ taken_byte s k x
   within_last =
       same _ _ (grind arith) (code k.count k.code _ _ (push 256 (bit_at 0 x)) e (byte k.code))
-      (place k.count k.place _ _ _ _ (push (cells s) (bit_at 0 x)) (λ p. (p + 1) % cells s) e
+      (place k.count k.place _ _ _ _ (push (cells s) (bit_at 0 x)) (next_place s) e
       (pushed_byte (cells s) k.place x h) (turn (command_of s) k.count k.code _ e))
       (byte k.shift)
     where

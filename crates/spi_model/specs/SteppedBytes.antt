@@ -11,6 +11,7 @@ use Rattle.datasheet.specs.Levels.{driven, read_as}
 use Rattle.datasheet.specs.Sheets.{cells, identity}
 use Rattle.datasheet.specs.Records.{Record, status}
 use Rattle.datasheet.specs.Commands.{first_data}
+use Rattle.datasheet.specs.Places.{next_place}
 use Rattle.datasheet.specs.Rises.{effect}
 use Rattle.datasheet.specs.Kept.{command_in, fall_kept}
 use Rattle.spi_model.specs.Moments.{Moment}
@@ -25,7 +26,7 @@ whole_session None = true
 whole_session (Some k) = whole_bytes k
 
 -- the registers after one byte more: the first byte is the op-code, the next two go into the address counter,
--- and each whole data byte leads one cell on
+-- and each whole data byte moves it to the place one byte on
 abbrev pub taken_byte : Sheet → Registers → ℕ → Registers
 taken_byte s k x =
     record {
@@ -34,7 +35,7 @@ taken_byte s k x =
       place =
           if nat_lt k.count 8 then k.place
           else if nat_lt k.count 24 then (256 * k.place + x) % cells s
-          else if nat_le (first_data (command_in s k)) k.count then (k.place + 1) % cells s
+          else if nat_le (first_data (command_in s k)) k.count then next_place s k.place
           else k.place;
       shift = x;
     }

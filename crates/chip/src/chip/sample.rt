@@ -3,7 +3,7 @@ ghost use Rattle.std.specs.Prelude.{◌≡◌, ◌≤◌, length};
 ghost use Rattle.datasheet.specs.Chips.{whole, turn, judged, output};
 ghost use Rattle.datasheet.specs.Calls.{so, put, sampled, answered};
 ghost use Rattle.datasheet.specs.Kept.{bounded};
-ghost use Rattle.chip_laws.specs.Laws.{Enough, StaysFitted};
+ghost use Rattle.chip_laws.specs.Laws.{Enough, RollsOver, StaysFitted};
 ghost use Rattle.chip.specs.Views.{record_of, chip_of, pins_of};
 
 use super::Chip;
@@ -85,6 +85,7 @@ impl Chip<'_> {
         ensures sheet { self.new.sheet ≡ self.old.sheet }
         ensures lent { self.new.memory.ghost_name ≡ self.old.memory.ghost_name }
         ensures enough { Enough }
+        ensures rolls { RollsOver }
         ensures stays { (StaysFitted whole) × (StaysFitted bounded) }
     {
         let sample = Sample::try_from(byte)?;

@@ -23,14 +23,13 @@ fn has_whole_bytes(kept: Registers) -> bool
 fn place_after(sheet: Sheet, kept: Registers, byte: u8) -> u16
     ensures { result ≡ (taken_byte sheet kept byte).place }
 {
-    let place = usize::from(kept.place);
-    // a place is below 2^15, the most cells of a sheet, so the casts lose nothing, and `try_from` could not fail
     if kept.count < 8 {
         kept.place
     } else if kept.count < 24 {
-        ((256 * place + usize::from(byte)) % sheet.cells()) as u16
+        // a place is below 2^15, the most cells of a sheet, so the cast loses nothing, and `try_from` could not fail
+        ((256 * usize::from(kept.place) + usize::from(byte)) % sheet.cells()) as u16
     } else if kept.count >= kept.first_data(sheet) {
-        ((place + 1) % sheet.cells()) as u16
+        sheet.next_place(kept.place)
     } else {
         kept.place
     }

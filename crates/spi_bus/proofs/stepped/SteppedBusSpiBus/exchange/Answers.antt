@@ -2,6 +2,7 @@ use Rattle.std.proofs.Common.{Bool, sym, ap, ap₂, ◌∙◌, arith}
 use Rattle.datasheet.specs.declared.registers.Registers.{Registers}
 use Rattle.datasheet.specs.Calls.{ChipState}
 use Rattle.datasheet.specs.Kept.{bounded}
+use Rattle.chip_laws.proofs.Rolls.{rolls_over}
 use Rattle.spi_model.specs.declared.mode.Mode.TheVariants.{Mode0}
 use Rattle.spi_model.specs.declared.bus_call.BusCall.TheVariants.{Exchange}
 use Rattle.spi_model.specs.Puts.{puts}
@@ -56,3 +57,9 @@ returns-then-self-clause-law g c = byte_at_once
 
 pub returns-else-self-clause-law : goal.returns-else-self-clause-law
 returns-else-self-clause-law g c = byte_at_once
+
+pub returns-then-self-clause-rolls : goal.returns-then-self-clause-rolls
+returns-then-self-clause-rolls g c = rolls_over
+
+pub returns-else-self-clause-rolls : goal.returns-else-self-clause-rolls
+returns-else-self-clause-rolls g c = rolls_over
