@@ -48,7 +48,8 @@ impl Sample {
     /// What counts as the sample before the first one: CS is high.
     const BEFORE_THE_FIRST: Sample = Sample(0x1F);
 
-    fn has(self, pin: u8) -> bool {
+    /// Whether a pin is high.
+    pub fn has(self, pin: u8) -> bool {
         self.0 & pin != 0
     }
 }
@@ -68,6 +69,10 @@ enum Event {
     Nothing,
     Begin,
     End,
+    /// HOLD becomes low while CS is low.
+    Hold,
+    /// HOLD becomes high again while CS is low.
+    Release,
     Rise {
         si: bool,
         wp: bool,
@@ -77,16 +82,19 @@ enum Event {
 
 impl Event {
     fn between(last: Sample, now: Sample) -> Self {
-        let held = !last.has(Sample::HOLD) || !now.has(Sample::HOLD);
         match (last.has(Sample::CS), now.has(Sample::CS)) {
             (true, true) => Event::Nothing,
             (true, false) => Event::Begin,
             (false, true) => Event::End,
-            (false, false) if held => Event::Nothing,
-            (false, false) => match (last.has(Sample::SCK), now.has(Sample::SCK)) {
-                (false, true) => Event::Rise { si: now.has(Sample::SI), wp: now.has(Sample::WP) },
-                (true, false) => Event::Fall,
-                _ => Event::Nothing,
+            (false, false) => match (last.has(Sample::HOLD), now.has(Sample::HOLD)) {
+                (true, false) => Event::Hold,
+                (false, false) => Event::Nothing,
+                (false, true) => Event::Release,
+                (true, true) => match (last.has(Sample::SCK), now.has(Sample::SCK)) {
+                    (false, true) => Event::Rise { si: now.has(Sample::SI), wp: now.has(Sample::WP) },
+                    (true, false) => Event::Fall,
+                    _ => Event::Nothing,
+                },
             },
         }
     }
@@ -133,6 +141,9 @@ enum Selection {
     Open,
     /// An open session that began asleep: nothing is taken or driven in it.
     Asleep,
+    /// An open session in which HOLD came back at the other level of SCK: from then on nothing is taken or driven in
+    /// it, and it ends as one of no command.
+    Spoiled,
 }
 
 /// A chip without power. It takes no samples; powering uses it up.
@@ -164,6 +175,7 @@ impl ParkedChip {
             latch: false,
             asleep: false,
             last: Sample::BEFORE_THE_FIRST,
+            held_at: false,
             selection: Selection::Deselected,
             session: Session::default(),
             driven: Level::HighZ,
@@ -182,8 +194,11 @@ pub struct Chip<'m> {
     /// The sleep mark.
     asleep: bool,
     last: Sample,
+    /// SCK of the sample in which HOLD became low, or in which CS fell with HOLD low; it counts while HOLD is low.
+    held_at: bool,
     selection: Selection,
-    /// The bits of the open session; what it holds while none is open, or one that began asleep, counts for nothing.
+    /// The bits of the open session; what it holds while none is open, or one that began asleep or is spoiled, counts
+    /// for nothing.
     session: Session,
     /// What SO shows while HOLD is high.
     driven: Level,
@@ -219,12 +234,27 @@ impl<'m> Chip<'m> {
         !self.last.has(Sample::CS)
     }
 
-    /// The bits of the open session; none if none is open or it began asleep.
+    /// The bits of the open session; none if none is open, it began asleep or it is spoiled.
     pub fn session(&self) -> Option<&Session> {
         match self.selection {
             Selection::Open => Some(&self.session),
-            Selection::Deselected | Selection::Asleep => None,
+            Selection::Deselected | Selection::Asleep | Selection::Spoiled => None,
         }
+    }
+
+    /// The last sample; before the first one all pins are high.
+    pub fn last(&self) -> Sample {
+        self.last
+    }
+
+    /// The level of SCK that an open session is held at, high or not; none while it is not held.
+    pub fn held_at(&self) -> Option<bool> {
+        (self.selected() && !self.last.has(Sample::HOLD)).then_some(self.held_at)
+    }
+
+    /// Whether the open session is spoiled.
+    pub fn spoiled(&self) -> bool {
+        self.selection == Selection::Spoiled
     }
 
     /// What SO shows: high-Z while HOLD is low, and at release what it showed before.
@@ -251,8 +281,14 @@ impl<'m> Chip<'m> {
         if self.fitted() {
             match Event::between(last, now) {
                 Event::Nothing => {}
-                Event::Begin => self.begin(),
+                Event::Begin => {
+                    self.held_at = now.has(Sample::SCK);
+                    self.begin();
+                }
                 Event::End => self.end(),
+                Event::Hold => self.held_at = now.has(Sample::SCK),
+                Event::Release if now.has(Sample::SCK) != self.held_at => self.spoil(),
+                Event::Release => {}
                 Event::Rise { si, wp } => self.rise(si, wp),
                 Event::Fall => self.fall(),
             }
@@ -271,12 +307,17 @@ impl<'m> Chip<'m> {
         self.selection = if self.asleep { Selection::Asleep } else { Selection::Open };
     }
 
-    fn end(&mut self) {
+    /// HOLD came back at the other level of SCK. What was done before stands, and only its end mends the session.
+    fn spoil(&mut self) {
         self.driven = Level::HighZ;
-        match mem::replace(&mut self.selection, Selection::Deselected) {
+        self.selection = Selection::Spoiled;
+    }
+
+    fn end(&mut self) {
+        match self.selection {
             Selection::Deselected => {}
-            // The end of a session that began asleep clears the sleep mark, and does no more.
-            Selection::Asleep => self.asleep = false,
+            // The end of a session that began asleep, or that is spoiled, clears the sleep mark, and does no more.
+            Selection::Asleep | Selection::Spoiled => self.asleep = false,
             Selection::Open => match self.command() {
                 // With the mark drop, a session with the op-code WRSR or WRITE clears WEL.
                 Some(Command::Wrsr | Command::Write) if self.sheet.marks().drop => self.latch = false,
@@ -288,11 +329,13 @@ impl<'m> Chip<'m> {
                 _ => {}
             },
         }
+        self.driven = Level::HighZ;
+        self.selection = Selection::Deselected;
     }
 
-    /// The command of the session. One of fewer than 8 bits has none.
-    fn command(&self) -> Option<Command> {
-        self.sheet.command(self.session.op_code()?)
+    /// The command of the open session. One of fewer than 8 bits has none, nor has one that began asleep or is spoiled.
+    pub fn command(&self) -> Option<Command> {
+        self.sheet.command(self.session()?.op_code()?)
     }
 
     /// A rise of SCK takes SI as the next bit and leaves SO.
@@ -329,8 +372,8 @@ impl<'m> Chip<'m> {
     fn fall(&mut self) {
         self.driven = match self.selection {
             Selection::Open => self.falls_to(),
-            // Nothing is driven in a session that began asleep.
-            Selection::Deselected | Selection::Asleep => Level::HighZ,
+            // Nothing is driven in a session that began asleep or is spoiled.
+            Selection::Deselected | Selection::Asleep | Selection::Spoiled => Level::HighZ,
         };
     }
 
@@ -364,7 +407,7 @@ impl<'m> Chip<'m> {
     /// Takes a byte at once, where the open session has a whole number of bytes and the pins are at rest in mode 0, and
     /// answers the byte that is read; high-Z is read as 1.
     pub(crate) fn exchange(&mut self, byte: u8, wp: bool) -> u8 {
-        // A session that began asleep takes and drives nothing, and a blank chip has none.
+        // A session that began asleep or is spoiled takes and drives nothing, and a blank chip has none.
         if self.selection != Selection::Open {
             return 0xFF;
         }

@@ -5,11 +5,11 @@ use std::ops::Range;
 use std::time::{Duration, Instant};
 
 use crate::board::MOST_CELLS;
-use crate::chip::{Chip, Session};
+use crate::chip::{Chip, Sample, Session};
 use crate::generate::{Case, Run, case};
 use crate::rng::Rng;
 use crate::script::{Report, board_run, dump_run, watched_chip_run};
-use crate::sheet::Stored;
+use crate::sheet::{Command, Stored};
 
 /// The seed of the test run.
 pub const SEED: u64 = 0x5EED_F4A3_0000_0001;
@@ -238,6 +238,60 @@ struct Acts {
     /// Sessions of more than 47 bits, and of more than 65,535.
     long_sessions: u64,
     very_long_sessions: u64,
+    holds: Holds,
+}
+
+/// Holds of sessions, and where sessions were spoiled.
+#[derive(Clone, Debug, Default)]
+struct Holds {
+    /// Released at the level at which HOLD fell.
+    same_level: u64,
+    /// Scripts in which a session was spoiled.
+    scripts: u64,
+    op_code: u64,
+    address: u64,
+    data: u64,
+    wrsr: u64,
+    rdsr: u64,
+    rdid: u64,
+    read: u64,
+    fstrd: u64,
+    /// Behind the eighth bit of SLEEP.
+    sleep: u64,
+    asleep: u64,
+    /// CS fell with HOLD low.
+    from_the_first: u64,
+    /// WEL was to fall at the end.
+    drop: u64,
+    /// HOLD falls once more in a spoiled session.
+    again: u64,
+    /// No session was spoiled, since CS rose in the sample that released HOLD at the other level.
+    cs_high: u64,
+}
+
+impl Holds {
+    /// A session was spoiled of which this was seen last.
+    fn add(&mut self, last: &Seen, chip: &Chip) {
+        let class = match (last.command, last.bits) {
+            _ if last.asleep => Some(&mut self.asleep),
+            (None, 0..8) => Some(&mut self.op_code),
+            (Some(Command::Read | Command::Write | Command::Fstrd), 8..24) => Some(&mut self.address),
+            (Some(Command::Write), _) => Some(&mut self.data),
+            (Some(Command::Wrsr), _) => Some(&mut self.wrsr),
+            (Some(Command::Rdsr), _) => Some(&mut self.rdsr),
+            (Some(Command::Rdid), _) => Some(&mut self.rdid),
+            (Some(Command::Read), _) => Some(&mut self.read),
+            (Some(Command::Fstrd), 32..) => Some(&mut self.fstrd),
+            (Some(Command::Sleep), 8) => Some(&mut self.sleep),
+            _ => None,
+        };
+        if let Some(count) = class {
+            *count += 1;
+        }
+        let drops = matches!(last.command, Some(Command::Wrsr | Command::Write)) && chip.sheet().marks().drop;
+        self.drop += u64::from(drops && last.latch);
+        self.from_the_first += u64::from(last.held_from_the_first);
+    }
 }
 
 /// What a watcher of a chip saw last.
@@ -245,17 +299,60 @@ struct Seen {
     latch: bool,
     asleep: bool,
     stored: Stored,
+    command: Option<Command>,
     bits: usize,
+    selected: bool,
+    held_at: Option<bool>,
+    /// The session is held since CS fell.
+    held_from_the_first: bool,
+    spoiled: bool,
+    /// A session was spoiled at any time before.
+    ever_spoiled: bool,
 }
 
 impl Seen {
     fn at_power(case: &Case) -> Self {
-        Seen { latch: false, asleep: false, stored: Stored::new(case.numbers.stored), bits: 0 }
+        Seen {
+            latch: false,
+            asleep: false,
+            stored: Stored::new(case.numbers.stored),
+            command: None,
+            bits: 0,
+            selected: false,
+            held_at: None,
+            held_from_the_first: false,
+            spoiled: false,
+            ever_spoiled: false,
+        }
     }
 
     fn step(&mut self, chip: &Chip, acts: &mut Acts) {
-        let bits = chip.session().map_or(0, Session::taken);
-        let now = Seen { latch: chip.latch(), asleep: chip.asleep(), stored: chip.stored(), bits };
+        let held_at = chip.held_at();
+        let now = Seen {
+            latch: chip.latch(),
+            asleep: chip.asleep(),
+            stored: chip.stored(),
+            command: chip.command(),
+            bits: chip.session().map_or(0, Session::taken),
+            selected: chip.selected(),
+            held_at,
+            held_from_the_first: held_at.is_some() && (self.held_from_the_first || !self.selected),
+            spoiled: chip.spoiled(),
+            ever_spoiled: self.ever_spoiled || chip.spoiled(),
+        };
+        if !self.spoiled && now.spoiled {
+            acts.holds.add(self, chip);
+        }
+        acts.holds.scripts += u64::from(!self.ever_spoiled && now.ever_spoiled);
+        acts.holds.again += u64::from(self.spoiled && self.held_at.is_none() && held_at.is_some());
+        if let Some(fell) = self.held_at
+            && !self.spoiled
+            && chip.last().has(Sample::HOLD)
+        {
+            let other = chip.last().has(Sample::SCK) != fell;
+            acts.holds.same_level += u64::from(now.selected && !other);
+            acts.holds.cs_high += u64::from(!now.selected && other);
+        }
         acts.latch_set += u64::from(!self.latch && now.latch);
         acts.latch_cleared += u64::from(self.latch && !now.latch);
         acts.slept += u64::from(!self.asleep && now.asleep);
@@ -366,6 +463,23 @@ impl Counts {
         class("stored bits changed", self.acts.stored_changed, 5000);
         class("sessions of more than 47 bits", self.acts.long_sessions, 25_000);
         class("sessions of more than 65,535 bits", self.acts.very_long_sessions, 3);
+        let holds = &self.acts.holds;
+        class("HOLD released at its level", holds.same_level, 100_000);
+        class("scripts with a spoiled session", holds.scripts, 10_000);
+        class("spoiled in the op-code", holds.op_code, 10_000);
+        class("spoiled in the address", holds.address, 2500);
+        class("spoiled in the data of WRITE", holds.data, 1500);
+        class("spoiled in WRSR", holds.wrsr, 1000);
+        class("spoiled in RDSR", holds.rdsr, 2000);
+        class("spoiled in RDID", holds.rdid, 400);
+        class("spoiled in READ", holds.read, 800);
+        class("spoiled in FSTRD", holds.fstrd, 150);
+        class("spoiled behind SLEEP", holds.sleep, 75);
+        class("spoiled asleep", holds.asleep, 100);
+        class("spoiled, CS fell with HOLD low", holds.from_the_first, 2500);
+        class("spoiled before WEL was to fall", holds.drop, 1500);
+        class("spoiled and held again", holds.again, 50_000);
+        class("HOLD and CS rise at the other level", holds.cs_high, 2000);
         class("81h, SO low", self.so[0], 250_000);
         class("81h, SO high", self.so[1], 250_000);
         class("81h, SO high-Z", self.so[2], 1_000_000);

@@ -330,6 +330,10 @@ fn start(rng: &mut Rng, size: usize) -> usize {
 
 // The chip run.
 
+/// In so many of a thousand chip scripts, HOLD is released at either level of SCK; in the others at that at which it
+/// fell. Five scripts in twelve are chip scripts, so it is one script in four.
+const EITHER_LEVEL: usize = 600;
+
 /// A script of sessions that mostly make sense, with power cycles between them, and some samples changed afterwards.
 fn chip_script(rng: &mut Rng, cells: usize) -> Vec<u8> {
     let acts = match rng.below(100) {
@@ -338,7 +342,8 @@ fn chip_script(rng: &mut Rng, cells: usize) -> Vec<u8> {
         80..=97 => rng.from_to(5, 10),
         _ => rng.from_to(11, 40),
     };
-    let mut clock = Clock { rng, cells, pins: 0x1F, script: Vec::new(), style: Style::default() };
+    let either_level = rng.chance(EITHER_LEVEL);
+    let mut clock = Clock { rng, cells, pins: 0x1F, script: Vec::new(), style: Style::default(), either_level };
     for _ in 0..acts {
         clock.act();
     }
@@ -416,6 +421,8 @@ struct Clock<'r> {
     pins: u8,
     script: Vec<u8>,
     style: Style,
+    /// HOLD is released at either level of SCK.
+    either_level: bool,
 }
 
 impl Clock<'_> {
@@ -441,14 +448,55 @@ impl Clock<'_> {
         }
     }
 
-    /// HOLD is low for some samples with SCK at random; it may fall and rise together with SCK.
+    /// HOLD is low for some samples, and is released; SCK may move in each of these.
     fn hold(&mut self) {
-        for _ in 0..self.rng.from_to(1, 4) {
-            let random = self.rng.byte() & (Sample::SCK | Sample::SI);
-            self.put((self.pins & !(Sample::HOLD | Sample::SCK | Sample::SI)) | random);
+        let fell = self.hold_low();
+        let release = if self.either_level { self.rng.byte() & Sample::SCK } else { fell };
+        self.put((self.pins & !Sample::SCK) | Sample::HOLD | release);
+    }
+
+    /// HOLD is low for some samples with SCK at random. Answers SCK of the first of them.
+    fn hold_low(&mut self) -> u8 {
+        let moving = Sample::SCK | Sample::SI;
+        let still = self.pins & !(Sample::HOLD | moving);
+        let first = self.rng.byte() & moving;
+        self.put(still | first);
+        for _ in 0..self.rng.below(4) {
+            let random = self.rng.byte() & moving;
+            self.put(still | random);
         }
+        first & Sample::SCK
+    }
+
+    /// Whether HOLD is to be low at a place in a session where it is seldom so by chance.
+    fn holds_here(&mut self) -> bool {
+        self.style.hold > 0 && self.rng.chance(120)
+    }
+
+    /// CS falls with HOLD low, or in the sample that releases HOLD.
+    fn begin_held(&mut self) {
+        let before = self.rng.below(3);
+        if before > 0 {
+            self.put(self.pins & !Sample::HOLD);
+        }
+        self.pins &= !Sample::CS;
+        if before > 1 {
+            let random = self.rng.byte() & Sample::SCK;
+            self.put((self.pins & !Sample::SCK) | Sample::HOLD | random);
+        } else {
+            self.hold();
+        }
+    }
+
+    /// CS rises with HOLD low, or in the sample that releases HOLD, at either level of SCK.
+    fn end_held(&mut self) {
+        self.hold_low();
         let random = self.rng.byte() & Sample::SCK;
-        self.put((self.pins & !Sample::SCK) | Sample::HOLD | random);
+        let end = (self.pins & !Sample::SCK) | Sample::CS | random;
+        if self.rng.flip() {
+            self.put(end);
+        }
+        self.put(end | Sample::HOLD);
     }
 
     fn stray(&mut self) {
@@ -487,25 +535,42 @@ impl Clock<'_> {
         if self.rng.chance(300) {
             self.restyle();
         }
+        let hold = self.style.hold;
+        if bits > 10_000 && self.rng.chance(600) {
+            // A hold would spoil most long sessions long before their end.
+            self.style.hold = 0;
+        }
         if self.pins & Sample::CS == 0 && !self.rng.chance(50) {
             self.set(Sample::CS, true);
         }
         // SCK may move together with CS: the edge does not count.
         let rest = if self.rng.chance(900) { self.style.mode_3 } else { self.rng.flip() };
         self.pins = if rest { self.pins | Sample::SCK } else { self.pins & !Sample::SCK };
-        self.set(Sample::CS, false);
+        if self.holds_here() {
+            self.begin_held();
+        } else {
+            self.set(Sample::CS, false);
+        }
         for i in 0..bits {
             self.bit(bytes[i / 8] >> (7 - i % 8) & 1 != 0);
+        }
+        if self.holds_here() {
+            self.hold();
         }
         if self.rng.chance(950) {
             if self.rng.chance(100) {
                 self.pins ^= Sample::SCK;
             }
-            self.set(Sample::CS, true);
+            if self.holds_here() {
+                self.end_held();
+            } else {
+                self.set(Sample::CS, true);
+            }
         }
         if self.rng.chance(20) {
             self.cycle();
         }
+        self.style.hold = hold;
     }
 
     /// A session of whole bytes, with some bits more or fewer now and then.
@@ -528,7 +593,11 @@ impl Clock<'_> {
         self.style = Style {
             mode_3: self.rng.flip(),
             wp: self.rng.pick(&[Wp::High, Wp::High, Wp::Low, Wp::Random]),
-            hold: self.rng.pick(&[0, 0, 0, 10, 50, 200]),
+            hold: if self.either_level {
+                self.rng.pick(&[0, 2, 5, 10, 20, 100])
+            } else {
+                self.rng.pick(&[0, 0, 0, 10, 50, 200])
+            },
             stray: self.rng.pick(&[0, 0, 0, 0, 2, 10]),
         };
     }

@@ -61,7 +61,12 @@ impl Sessions {
     }
 
     fn put(&mut self, pins: u8) {
-        self.script.extend([0x01, Sample::HOLD | self.wp | pins]);
+        self.put_held(Sample::HOLD | pins);
+    }
+
+    /// A sample with HOLD low, unless the pins have it.
+    fn put_held(&mut self, pins: u8) {
+        self.script.extend([0x01, self.wp | pins]);
         self.answer_bytes += 2;
     }
 
@@ -81,19 +86,63 @@ impl Sessions {
         self
     }
 
-    /// A session of the first so many bits of some bytes.
-    fn bits(mut self, bytes: &[u8], bits: usize) -> Self {
-        let mut rises = Vec::new();
+    /// CS falls with HOLD high, and a session begins.
+    fn open(mut self) -> Self {
         self.put(0);
+        self.rises.push(Vec::new());
+        self
+    }
+
+    /// CS falls with HOLD low and SCK at a level; then it is released with SCK at a level.
+    fn open_held(mut self, sck: u8, release: u8) -> Self {
+        self.put_held(sck);
+        self.rises.push(Vec::new());
+        self.release(release)
+    }
+
+    /// The first so many bits of some bytes.
+    fn clock(mut self, bytes: &[u8], bits: usize) -> Self {
         for i in 0..bits {
             let si = if bytes[i / 8] >> (7 - i % 8) & 1 != 0 { Sample::SI } else { 0 };
-            self.put(Sample::SCK | si);
-            rises.push(self.answer_bytes - 1);
+            self.rise(si);
             self.put(si);
         }
-        self.put(Sample::CS);
-        self.rises.push(rises);
         self
+    }
+
+    /// SCK rises with SI as it is given.
+    fn rise(&mut self, si: u8) {
+        self.put(Sample::SCK | si);
+        self.rises.last_mut().expect("a session").push(self.answer_bytes - 1);
+    }
+
+    /// HOLD is low with SCK at these levels in turn, the first in the sample in which it falls; then it is released with
+    /// SCK at a level.
+    fn hold(mut self, low: &[u8], release: u8) -> Self {
+        for &sck in low {
+            self.put_held(sck);
+        }
+        self.release(release)
+    }
+
+    /// HOLD is released with SCK at a level; then SCK is low.
+    fn release(mut self, sck: u8) -> Self {
+        self.put(sck);
+        if sck != 0 {
+            self.put(0);
+        }
+        self
+    }
+
+    /// CS rises, and the session ends.
+    fn close(mut self) -> Self {
+        self.put(Sample::CS);
+        self
+    }
+
+    /// A session of the first so many bits of some bytes.
+    fn bits(self, bytes: &[u8], bits: usize) -> Self {
+        self.open().clock(bytes, bits).close()
     }
 
     fn bytes(self, bytes: &[u8]) -> Self {
@@ -393,16 +442,304 @@ fn hold_stops_the_clock() {
         let si = (RDSR >> i & 1) << 2;
         script.extend([0x01, 0x1A | si, 0x01, 0x18 | si]);
         if i == 3 {
-            // Released with SCK high; then it falls.
-            script.extend([0x01, 0x08, 0x01, 0x0A, 0x01, 0x08, 0x01, 0x0A, 0x01, 0x1A, 0x01, 0x18]);
+            // HOLD falls with a rise of SCK and is released with one; then SCK falls.
+            script.extend([0x01, 0x0A, 0x01, 0x08, 0x01, 0x0A, 0x01, 0x08, 0x01, 0x1A, 0x01, 0x18]);
         }
     }
     let shown = script.len();
-    // SO is at the highest bit; HOLD low hides it, and release shows it again.
+    // SO is at the highest bit; HOLD low hides it, and release, with a fall of SCK, shows it again.
     script.extend([0x01, 0x08, 0x01, 0x0A, 0x01, 0x18, 0x01, 0x1A, 0x01, 0x18]);
     let outcome = run(Run::Chip, protected(MB85RS64VY, 0x80), 8192, &script);
     let levels: Vec<u8> = outcome.answers[shown - 2..].chunks(2).map(|answer| answer[1]).take(6).collect();
     assert_eq!(levels, [1, 2, 2, 1, 1, 0]);
+}
+
+// HOLD released at the other level of SCK than that at which it fell.
+
+const HIGH: u8 = Sample::SCK;
+
+/// A level of SCK at which HOLD falls, and the other one.
+const LEVELS: [(u8, u8); 2] = [(0, HIGH), (HIGH, 0)];
+
+/// A session with a hold behind so many of its bits, which begins with SCK at one level and is released at another.
+fn held(before: Sessions, bytes: &[u8], behind: usize, low: &[u8], release: u8) -> Sessions {
+    let number = |bit: usize| bytes[bit / 8] >> (7 - bit % 8) & 1;
+    let rest: Vec<u8> = (behind..8 * bytes.len()).map(|bit| number(bit) << 7).collect();
+    let session = before.open().clock(bytes, behind).hold(low, release);
+    rest.iter().fold(session, |session, &bit| session.clock(&[bit], 1)).close()
+}
+
+fn woken() -> Sessions {
+    Sessions::new().bytes(&[WREN])
+}
+
+#[test]
+fn a_hold_released_at_its_level_changes_nothing() {
+    let data = [WRITE, 0x01, 0x23, 0xAA, 0xBB];
+    for (fell, other) in LEVELS {
+        // SCK may move in between, and an edge may fall into the first or the last sample of the hold.
+        for low in [vec![fell], vec![fell, other], vec![fell, other, fell], vec![fell, other, other, fell, other]] {
+            for behind in 0..40 {
+                let ran = held(woken(), &data, behind, &low, fell).bytes(&[RDSR, 0]).run(MB85RS64VY);
+                assert_eq!((ran.cell(0x0123), ran.cell(0x0124)), (0xAA, 0xBB), "{low:?} behind {behind} bits");
+                assert_eq!(ran.last_read(), [0xFF, 0x02]);
+                let ran = held(woken(), &[RDSR, 0, 0], behind % 24, &low, fell).run(MB85RS64VY);
+                assert_eq!(ran.last_read(), [0xFF, 0x02, 0x02], "{low:?} behind {behind} bits");
+            }
+        }
+    }
+}
+
+#[test]
+fn a_session_is_spoiled_inside_its_op_code() {
+    for (fell, other) in LEVELS {
+        for behind in 0..8 {
+            let ran = held(Sessions::new(), &[WREN], behind, &[fell], other).bytes(&[RDSR, 0]).run(MB85RS64VY);
+            assert_eq!(ran.last_read(), [0xFF, 0x00], "behind {behind} bits");
+            let ran = held(woken(), &[RDSR, 0], behind, &[fell], other).run(MB85RS64VY);
+            assert_eq!(ran.last_read(), [0xFF, 0xFF], "behind {behind} bits");
+        }
+        // Behind the eighth bit the latch is set, and stays so.
+        let ran = held(Sessions::new(), &[WREN, 0], 8, &[fell], other).bytes(&[RDSR, 0]).run(MB85RS64VY);
+        assert_eq!(ran.last_read(), [0xFF, 0x02]);
+        let ran = held(woken(), &[WRDI, 0], 8, &[fell], other).bytes(&[RDSR, 0]).run(MB85RS64VY);
+        assert_eq!(ran.last_read(), [0xFF, 0x00]);
+    }
+}
+
+#[test]
+fn a_session_is_spoiled_inside_its_address() {
+    for (fell, other) in LEVELS {
+        for behind in 8..24 {
+            let ran = held(woken(), &[WRITE, 0x01, 0x23, 0xAA], behind, &[fell], other).bytes(&[RDSR, 0]);
+            let ran = ran.run(MB85RS64VY);
+            assert_eq!(ran.written(), [], "behind {behind} bits");
+            assert_eq!(ran.last_read(), [0xFF, 0x02]);
+            let read = held(Sessions::new(), &[READ, 0x01, 0x23, 0, 0], behind, &[fell], other);
+            assert_eq!(read.run(MB85RS64VY).last_read(), [0xFF; 5], "behind {behind} bits");
+        }
+    }
+}
+
+#[test]
+fn a_session_is_spoiled_inside_a_data_byte() {
+    for (fell, other) in LEVELS {
+        for bits in 0..=24 {
+            // The bytes that were whole before stand, and no other is written.
+            let data = [WRITE, 0x01, 0x23, 0xAA, 0xBB, 0xCC, 0xDD];
+            let ran = held(woken(), &data, 24 + bits, &[fell], other).bytes(&[RDSR, 0]).run(MB85RS64VY);
+            let whole: Vec<usize> = (0x0123..0x0123 + bits / 8).collect();
+            assert_eq!(ran.written(), whole, "behind {bits} bits of data");
+            assert_eq!(ran.last_read(), [0xFF, 0x02]);
+            // So of WRSR.
+            let ran = held(woken(), &[WRSR, 0x0C, 0x00, 0x00], 8 + bits, &[fell], other).run(MB85RS64VY);
+            assert_eq!(ran.stored(), if bits < 8 { 0x00 } else { 0x0C }, "behind {bits} bits of data");
+        }
+    }
+}
+
+#[test]
+fn so_of_a_spoiled_session_is_high_z_to_its_end() {
+    // RDSR of A8h at its second data bit, which is 0: what SO shows behind the op-code.
+    let shown = |hold: &[u8]| {
+        let mut script = Sessions::new().open().clock(&[RDSR, 0], 9).script;
+        let from = script.len();
+        script.extend(hold.iter().flat_map(|&pins| [0x01, 0x08 | pins]));
+        let outcome = run(Run::Chip, protected(MB85RS64VY, 0xA8), 8192, &script);
+        let levels = outcome.answers[from - 2..outcome.report.answer_bytes as usize].chunks(2);
+        levels.map(|answer| answer[1]).collect::<Vec<u8>>()
+    };
+    let (low, high, low_held, high_held, cs) = (0x10, 0x12, 0x00, 0x02, 0x11);
+    // The twin: HOLD is released at the level at which it fell, and the bits go on.
+    assert_eq!(shown(&[low_held, high_held, low, high, low, high, low, cs]), [0, 2, 2, 0, 0, 1, 1, 0, 2]);
+    assert_eq!(shown(&[high_held, low_held, high, low, high, low, cs]), [0, 2, 2, 0, 0, 0, 1, 2]);
+    // Neither a rise nor a fall, nor a hold at one level, brings SO back.
+    assert_eq!(shown(&[low_held, high, low, high, low, high, low, cs]), [0, 2, 2, 2, 2, 2, 2, 2, 2]);
+    assert_eq!(shown(&[high_held, low, high, low, high, low, cs]), [0, 2, 2, 2, 2, 2, 2, 2]);
+    assert_eq!(shown(&[low_held, high, low, low_held, low, high, low, cs]), [0, 2, 2, 2, 2, 2, 2, 2, 2]);
+    assert_eq!(shown(&[high_held, low, high, high_held, high, low, high, low]), [0, 2, 2, 2, 2, 2, 2, 2, 2]);
+}
+
+#[test]
+fn reads_are_spoiled_while_they_show() {
+    let memory: Vec<u8> = (0..0x8000).map(|place: u32| (place * 7 + 3) as u8).collect();
+    let cell = |place: usize| memory[place];
+    let sessions: [(&[u8], Vec<u8>); 4] = [
+        (&[RDSR, 0, 0], vec![0xFF, 0x00, 0x00]),
+        (&[RDID, 0, 0, 0, 0, 0], vec![0xFF, 0x04, 0x7F, 0x05, 0x09, 0xFF]),
+        (&[READ, 0x12, 0x34, 0, 0], vec![0xFF, 0xFF, 0xFF, cell(0x1234), cell(0x1235)]),
+        (&[FSTRD, 0x12, 0x34, 0, 0, 0], vec![0xFF, 0xFF, 0xFF, 0xFF, cell(0x1234), cell(0x1235)]),
+    ];
+    for (bytes, shown) in sessions {
+        for (fell, other) in LEVELS {
+            for behind in 8..8 * bytes.len() {
+                let twin = held(Sessions::new(), bytes, behind, &[fell, other], fell);
+                assert_eq!(twin.run_over(MB85RS256B, memory.clone()).last_read(), shown);
+                let ran = held(Sessions::new(), bytes, behind, &[fell, other], other);
+                let ran = ran.bytes(bytes).run_over(MB85RS256B, memory.clone());
+                // From the hold on every bit is read as 1; the session behind it is as ever.
+                let mut read = shown.clone();
+                read[behind / 8] |= 0xFF >> (behind % 8);
+                read[behind / 8 + 1..].fill(0xFF);
+                assert_eq!(ran.read(0), read, "{bytes:02X?} behind {behind} bits");
+                assert_eq!(ran.read(1), shown);
+            }
+        }
+    }
+}
+
+#[test]
+fn a_spoiled_session_does_not_fall_asleep() {
+    for (fell, other) in LEVELS {
+        let sleep = |release: u8| woken().open().clock(&[SLEEP], 8).hold(&[fell], release).close();
+        let twin = sleep(fell).bytes(&[RDSR, 0]).bytes(&[RDSR, 0]).run(MB85RS64VY);
+        assert_eq!((twin.read(2), twin.read(3)), (vec![0xFF, 0xFF], vec![0xFF, 0x00]));
+        // It stays awake, and its latch is as before.
+        let ran = sleep(other).bytes(&[RDSR, 0]).run(MB85RS64VY);
+        assert_eq!(ran.last_read(), [0xFF, 0x02]);
+        // A ninth bit is not taken, and cancels nothing that is left.
+        let ran = held(woken(), &[SLEEP, 0], 8, &[fell], other).bytes(&[RDSR, 0]).run(MB85RS64VY);
+        assert_eq!(ran.last_read(), [0xFF, 0x02]);
+    }
+}
+
+#[test]
+fn a_spoiled_session_that_began_asleep_wakes() {
+    for (fell, other) in LEVELS {
+        for release in [fell, other] {
+            for behind in 0..=16 {
+                let ran = held(woken().bytes(&[SLEEP]), &[WREN, 0], behind, &[fell], release).bytes(&[RDSR, 0]);
+                let ran = ran.run(MB85RS64VY);
+                assert_eq!((ran.read(2), ran.read(3)), (vec![0xFF, 0xFF], vec![0xFF, 0x00]), "behind {behind} bits");
+            }
+        }
+    }
+}
+
+#[test]
+fn a_spoiled_session_does_not_drop_the_latch() {
+    for (fell, other) in LEVELS {
+        for bits in [8, 16, 24, 28, 32, 36] {
+            let write = [WRITE, 0x01, 0x23, 0xAA, 0xBB];
+            let twin = held(woken(), &write, bits, &[fell], fell).bytes(&[RDSR, 0]).run(MB85RS256B);
+            assert_eq!((twin.written(), twin.last_read()), (vec![0x0123, 0x0124], vec![0xFF, 0x00]));
+            let ran = held(woken(), &write, bits, &[fell], other).bytes(&[RDSR, 0]).run(MB85RS256B);
+            let written = if bits < 32 { vec![] } else { vec![0x0123] };
+            assert_eq!((ran.written(), ran.last_read()), (written, vec![0xFF, 0x02]), "behind {bits} bits");
+        }
+        for (bits, stored) in [(8, 0x00), (12, 0x00), (16, 0x0C)] {
+            let ran = held(woken(), &[WRSR, 0x0C, 0], bits, &[fell], other).bytes(&[RDSR, 0]).run(MB85RS256B);
+            assert_eq!((ran.stored(), ran.last_read()), (stored, vec![0xFF, 0x02 | stored]), "behind {bits} bits");
+        }
+    }
+}
+
+#[test]
+fn a_session_whose_cs_falls_with_hold_low_remembers_its_sck() {
+    for (fell, other) in LEVELS {
+        let session = |release: u8| woken().open_held(fell, release).clock(&[RDSR, 0], 16).close();
+        assert_eq!(session(fell).run(MB85RS64VY).last_read(), [0xFF, 0x02]);
+        assert_eq!(session(other).run(MB85RS64VY).last_read(), [0xFF, 0xFF]);
+        // HOLD fell before CS, at the other level: that counts for nothing.
+        let session = |release: u8| {
+            let mut before = woken();
+            before.put_held(Sample::CS | other);
+            before.open_held(fell, release).clock(&[RDSR, 0], 16).close()
+        };
+        assert_eq!(session(fell).run(MB85RS64VY).last_read(), [0xFF, 0x02]);
+        assert_eq!(session(other).run(MB85RS64VY).last_read(), [0xFF, 0xFF]);
+        // HOLD rises in the sample in which CS falls: the session is not held.
+        let mut before = woken();
+        before.put_held(Sample::CS | fell);
+        before.put(other);
+        before.rises.push(Vec::new());
+        let ran = before.release(0).clock(&[RDSR, 0], 16).close().run(MB85RS64VY);
+        assert_eq!(ran.last_read(), [0xFF, 0x02]);
+    }
+}
+
+#[test]
+fn cs_high_in_the_releasing_sample_ends_the_session_as_ever() {
+    for (fell, other) in LEVELS {
+        let end = |sessions: Sessions, bytes: &[u8], hold_and_cs: [u8; 2]| {
+            let mut sessions = sessions.open().clock(bytes, 8 * bytes.len());
+            sessions.put_held(fell);
+            for pins in hold_and_cs {
+                sessions.put_held(pins);
+            }
+            sessions
+        };
+        // CS rises with HOLD at the other level of SCK, or while HOLD is low, which is then released so.
+        let (cs, released) = (Sample::CS, Sample::HOLD);
+        for ways in [[other, cs | released | other], [cs | other, cs | released | other], [cs | fell, released | cs]] {
+            let asleep = end(woken(), &[SLEEP], ways).bytes(&[RDSR, 0]).bytes(&[RDSR, 0]).run(MB85RS64VY);
+            assert_eq!((asleep.read(2), asleep.read(3)), (vec![0xFF, 0xFF], vec![0xFF, 0x00]), "{ways:02X?}");
+            let dropped = end(woken(), &[WRITE, 0, 5, 1], ways).bytes(&[RDSR, 0]).run(MB85RS256B);
+            assert_eq!((dropped.written(), dropped.last_read()), (vec![5], vec![0xFF, 0x00]), "{ways:02X?}");
+        }
+    }
+}
+
+#[test]
+fn the_level_of_the_fall_is_remembered_and_no_other() {
+    // SCK in the samples with HOLD low, then in the one that releases it.
+    for (low, release) in [
+        (vec![0, HIGH], HIGH),
+        (vec![0, HIGH, HIGH], HIGH),
+        (vec![0, HIGH, 0], HIGH),
+        (vec![0, 0], HIGH),
+        (vec![HIGH, 0], 0),
+        (vec![HIGH, 0, HIGH], 0),
+        (vec![HIGH, HIGH, 0], 0),
+    ] {
+        let ran = held(woken(), &[RDSR, 0], 4, &low, release).run(MB85RS64VY);
+        assert_eq!(ran.last_read(), [0xFF, 0xFF], "{low:?}, then {release}");
+    }
+    // SCK is high in the sample before HOLD falls, and that plays no part. Where SCK falls together with HOLD, its fall
+    // does not count: SO is still at high-Z at the next rise.
+    for (fell, release, shown) in [(HIGH, HIGH, 0x02), (0, 0, 0x82), (0, HIGH, 0xFF), (HIGH, 0, 0xFF)] {
+        let mut session = woken().open().clock(&[RDSR], 7);
+        session.rise(Sample::SI);
+        let ran = session.hold(&[fell], release).clock(&[0], 8).close().run(MB85RS64VY);
+        assert_eq!(ran.last_read(), [0xFF, shown], "fell at {fell}, back at {release}");
+    }
+}
+
+#[test]
+fn each_hold_of_a_session_is_judged_by_its_own_fall() {
+    for (fell, other) in LEVELS {
+        // One at each level, each released at its own: the bits go on.
+        let session = woken().open().clock(&[RDSR], 3).hold(&[fell], fell).clock(&[RDSR << 3], 2);
+        let session = session.hold(&[other], other).clock(&[RDSR << 5], 3).clock(&[0], 8).close();
+        assert_eq!(session.run(MB85RS64VY).last_read(), [0xFF, 0x02]);
+        // The second one spoils.
+        let session = woken().open().clock(&[RDSR], 3).hold(&[fell], fell).clock(&[RDSR << 3], 2);
+        let session = session.hold(&[other], fell).clock(&[RDSR << 5], 3).clock(&[0], 8).close();
+        assert_eq!(session.run(MB85RS64VY).last_read(), [0xFF, 0xFF]);
+        // The first one spoils, and no later one mends it: neither at its level nor at the other.
+        for release in [fell, other] {
+            let session = woken().open().clock(&[WRITE, 0x01, 0x23, 0xAA], 32).hold(&[fell], other);
+            let session = session.hold(&[fell], release).clock(&[0xBB], 8).hold(&[fell], release).clock(&[0xCC], 8);
+            let ran = session.close().bytes(&[RDSR, 0]).run(MB85RS64VY);
+            assert_eq!((ran.written(), ran.last_read()), (vec![0x0123], vec![0xFF, 0x02]));
+        }
+    }
+}
+
+#[test]
+fn power_ends_a_spoiled_session() {
+    for (fell, other) in LEVELS {
+        let spoiled = woken().open().clock(&[RDSR], 4).hold(&[fell], other).power_cycle();
+        assert_eq!(spoiled.bytes(&[RDSR, 0]).run(MB85RS64VY).last_read(), [0xFF, 0x00]);
+        // A power cycle amid a hold ends that too: what it remembered counts for nothing.
+        let mut amid = woken().open().clock(&[RDSR], 4);
+        amid.put_held(fell);
+        let mut amid = amid.power_cycle();
+        amid.put_held(other);
+        amid.rises.push(Vec::new());
+        let ran = amid.release(other).clock(&[RDSR, 0], 16).close().run(MB85RS64VY);
+        assert_eq!(ran.last_read(), [0xFF, 0x00]);
+    }
 }
 
 #[test]

@@ -6,9 +6,10 @@ use Rattle.datasheet.specs.Alike.{Alike}
 use Rattle.datasheet.specs.Calls.{Sendable, answers}
 use Rattle.datasheet.specs.Chips.{whole}
 use Rattle.datasheet.specs.Kept.{bounded}
-use Rattle.chip_laws.specs.Laws.{Fitted, StaysFitted, ToldApart}
+use Rattle.chip_laws.specs.Laws.{Fitted, StaysFitted, SpoiledIsIdle, ToldApart}
 use Rattle.chip_laws.proofs.Apart.{fitted_apart, told_apart, told_apart_whole}
 use Rattle.chip_laws.proofs.Stays.{stays_fitted, stays_fitted_whole}
+use Rattle.chip_laws.proofs.Spoils.{spoiled_is_idle}
 use Rattle.chip.specs.declared.chip.Chip.{Chip}
 use Rattle.chip.specs.Views.{chip_of, record_of, pins_of, Resting}
 
@@ -38,3 +39,7 @@ apart = (told_apart_whole, told_apart)
 -- a fitted chip stays fitted, by the rules and as the code keeps a session
 pub stays : (StaysFitted whole) × (StaysFitted bounded)
 stays = (stays_fitted_whole, stays_fitted)
+
+-- a spoiled session changes nothing, by the rules and as the code keeps a session
+pub idle : (SpoiledIsIdle whole) × (SpoiledIsIdle bounded)
+idle = (spoiled_is_idle whole, spoiled_is_idle bounded)

@@ -18,7 +18,7 @@ record_of c = held c.memory.now c.status
 -- its pins
 abbrev pub pins_of : Option Session → PinState Registers
 pins_of None = deselected
-pins_of (Some x) = selected (record { sck = x.sck; hold = x.hold; kept = x.kept; so = x.so })
+pins_of (Some x) = selected (record { sck = x.sck; course = x.course; kept = x.kept; so = x.so })
 
 -- the whole chip
 abbrev pub chip_of : Chip → ChipState Registers

@@ -43,7 +43,7 @@ pub trait Pins {
 
 /// What can be stepped by bytes: a byte at once, with no pin moved.
 pub trait Stepped: Pins {
-    /// In a session of whole bytes, SCK low and HOLD high, takes a byte and answers the byte that is read: the chip is left as by
+    /// In a session of whole bytes that runs, SCK low, takes a byte and answers the byte that is read: the chip is left as by
     /// the rises and falls of that byte. Otherwise nothing happens, and FFh is read.
     fn step(&mut self, wp: bool, byte: u8) -> u8
         ensures read { result ≡ step_read (Self.Pins.chip self.old) wp byte }

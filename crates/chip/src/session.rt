@@ -1,10 +1,10 @@
-use datasheet::{Level, Registers};
+use datasheet::{Course, Level, Registers};
 
-/// An open session: the last levels of SCK and HOLD, what is kept of its bits, and what SO shows while HOLD is high.
+/// An open session: the last level of SCK, its course, what is kept of its bits, and what SO shows while it runs.
 #[derive(Clone, Copy, Debug, PartialEq, Eq)]
 pub struct Session {
     pub sck: bool,
-    pub hold: bool,
+    pub course: Course,
     pub kept: Registers,
     pub so: Level,
 }

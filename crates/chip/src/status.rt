@@ -1,8 +1,9 @@
 // What a chip holds besides its cells.
 ghost use Rattle.std.specs.Prelude.{◌≡◌, true, false};
 
+use crate::session::Session;
 use crate::stored::StoredBits;
-use datasheet::{Command, Registers, Sheet};
+use datasheet::{Command, Sheet};
 
 /// The stored bits and the write latch, which the status byte shows, and the sleep mark, which it does not.
 #[derive(Clone, Copy, Debug, PartialEq, Eq)]
@@ -18,7 +19,7 @@ impl Status {
     ghost use Rattle.std.specs.Prelude.{ℕ, List, []};
     ghost use Rattle.datasheet.specs.Records.{status};
     ghost use Rattle.datasheet.specs.Protection.{first_protected, may_write, may_store};
-    ghost use Rattle.datasheet.specs.Chips.{closed};
+    ghost use Rattle.datasheet.specs.Chips.{closed_in};
     ghost use Rattle.datasheet.specs.Kept.{bounded};
     ghost use Rattle.chip.specs.Held.{held};
 
@@ -70,15 +71,16 @@ impl Status {
         self.latch && !(self.stored.bits / 128 % 2 == 1 && !wp)
     }
 
-    /// The end of a session. It wakes a sleeping chip, and does no more there.
-    pub(crate) fn end(&mut self, sheet: Sheet, kept: Registers)
+    /// The end of a session; that of a spoiled one acts as for no command. It wakes a sleeping chip, and does no more there.
+    pub(crate) fn end(&mut self, sheet: Sheet, last: Session)
         ensures { (memory : List ℕ) → held memory self.new ≡
-            closed bounded sheet (held memory self.old) kept }
+            closed_in bounded sheet last.course (held memory self.old) last.kept }
     {
-        match kept.command(sheet) {
+        match last.kept.command(sheet) {
             _ if self.asleep => self.asleep = false,
+            _ if last.course.is_spoiled() => {}
             Some(Command::Wrsr | Command::Write) if sheet.marks.drop => self.latch = false,
-            Some(Command::Sleep) if kept.count == 8 => {
+            Some(Command::Sleep) if last.kept.count == 8 => {
                 self.latch = false;
                 self.asleep = true;
             }

@@ -7,6 +7,7 @@ use Rattle.datasheet.specs.declared.sheet.Sheet.{Sheet}
 use Rattle.datasheet.specs.declared.command.Command.{Command}
 use Rattle.datasheet.specs.declared.level.Level.{Level}
 use Rattle.datasheet.specs.declared.level.Level.TheVariants.{HighZ}
+use Rattle.datasheet.specs.declared.course.Course.TheVariants.{Running}
 use Rattle.datasheet.specs.Bits.{bits_of, number, byte_after}
 use Rattle.datasheet.specs.Levels.{driven}
 use Rattle.datasheet.specs.Sheets.{cells}
@@ -58,7 +59,7 @@ reading s r bits l (b ∷ bs) = bit_read (shows l) ∷ reading s r (bits ++ b �
 
 module _ (s : Sheet) (r : Record) where
   abbrev selected_at : List Bool → Level → ChipState (List Bool)
-  selected_at bits l = record { sheet = s; fitted = true; rec = waking r; pins = selected (record { sck = false; hold = true; kept = bits; so = l }) }
+  selected_at bits l = record { sheet = s; fitted = true; rec = waking r; pins = selected (record { sck = false; course = Running; kept = bits; so = l }) }
 
   clocked : (bits : List Bool) (l : Level) (b : Bool) (xs : List ChipCall) →
       let bits' = bits ++ b ∷ [] in

@@ -17,7 +17,7 @@ use Rattle.chip_laws.proofs.Simulation.{kept_none, kept_more, rise_same, fall_sa
 module _ (K L : Keeping) (s : Sheet) (f : K.Kept → L.Kept) where
   abbrev pins_by : PinState K.Kept → PinState L.Kept
   pins_by deselected = deselected
-  pins_by (selected o) = selected (record { sck = o.sck; hold = o.hold; kept = f o.kept; so = o.so })
+  pins_by (selected o) = selected (record { sck = o.sck; course = o.course; kept = f o.kept; so = o.so })
 
   abbrev turn_by : Turn K.Kept → Turn L.Kept
   turn_by t = turn t.rec (pins_by t.pins)

@@ -1,9 +1,11 @@
 -- The laws of the chip, over whole runs.
-use Rattle.std.specs.Prelude.{◌≡◌, ℕ, ◌+◌, ◌-◌, ◌*◌, ◌%◌, ◌<◌, ◌≤◌, Bool, true, false, if◌then◌else◌, ◌==◌, ◌↔◌, ◌⊎◌, List, length, slice_index, Some}
+use Rattle.std.specs.Prelude.{◌≡◌, ℕ, ◌+◌, ◌-◌, ◌*◌, ◌%◌, ◌<◌, ◌≤◌, Bool, true, false, if◌then◌else◌, ◌==◌, ◌↔◌, ◌⊎◌, List, length, replicate, All, slice_index, Some}
 use Rattle.datasheet.specs.declared.command.Command.{Command}
 use Rattle.datasheet.specs.declared.command.Command.TheVariants.{Read, Write, Fstrd}
 use Rattle.datasheet.specs.declared.registers.Registers.{Registers}
 use Rattle.datasheet.specs.declared.sheet.Sheet.{Sheet}
+use Rattle.datasheet.specs.declared.level.Level.TheVariants.{HighZ}
+use Rattle.datasheet.specs.declared.sample.Sample.{Sample}
 use Rattle.datasheet.specs.Bits.{number, bits_of, byte_after}
 use Rattle.datasheet.specs.Sheets.{density_of, cells}
 use Rattle.datasheet.specs.Records.{Record}
@@ -12,9 +14,10 @@ use Rattle.datasheet.specs.Places.{next_place, places_on}
 use Rattle.datasheet.specs.Sessions.{command, address}
 use Rattle.datasheet.specs.Rises.{effect, after_rise}
 use Rattle.datasheet.specs.Falls.{data_shown, after_fall}
+use Rattle.datasheet.specs.Machines.{left_by, answered_by}
 use Rattle.datasheet.specs.Alike.{Alike}
-use Rattle.datasheet.specs.Chips.{Keeping, PinState, deselected, selected, whole}
-use Rattle.datasheet.specs.Calls.{ChipState, ChipCall, Sendable, answers, run}
+use Rattle.datasheet.specs.Chips.{Keeping, PinState, deselected, selected, in_spoiled, whole}
+use Rattle.datasheet.specs.Calls.{ChipState, so, ChipCall, Sendable, put, answers, run}
 use Rattle.datasheet.specs.Pasts.{Past, chip_now}
 use Rattle.datasheet.specs.Kept.{kept_chip, bounded}
 use Rattle.chip_laws.specs.ByDivision.{by_division}
@@ -105,3 +108,12 @@ ToldApart K =
     let d : ChipState K.Kept = chip_now K b in
     c.pins ≡ deselected → d.pins ≡ deselected →
     (c.rec ≡ d.rec) ↔ Alike Sendable (answers K) (answers K) c d
+
+-- A spoiled session changes nothing: whatever samples follow, until CS rises, the record stays, that is the memory, the
+-- stored bits, the latch and the sleep mark; the session stays spoiled; and SO shows high-Z.
+abbrev pub SpoiledIsIdle : Keeping → Type 0
+SpoiledIsIdle K =
+    (c : ChipState K.Kept) (xs : List Sample) → in_spoiled c.pins ≡ true → All (λ (x : Sample). x.cs ≡ false) xs →
+    ((left_by (put K) c xs).rec ≡ c.rec)
+    × (in_spoiled (left_by (put K) c xs).pins ≡ true)
+    × (answered_by (put K) (λ d x. so (put K d x)) c xs ≡ replicate (length xs) HighZ)

@@ -3,4 +3,4 @@ use Rattle.std.proofs.Common.{refl}
 use Rattle.chip_trial.specs.Laws.{TableRight}
 
 pub table_right : TableRight
-table_right = record { every = (refl, (refl, (refl, (refl, (refl, (refl, (refl, (refl, (refl, (refl, (refl, tt))))))))))) }
+table_right = record { every = (refl, (refl, (refl, (refl, (refl, (refl, (refl, (refl, (refl, (refl, (refl, (refl, (refl, (refl, (refl, (refl, (refl, (refl, (refl, (refl, (refl, (refl, (refl, tt))))))))))))))))))))))) }

@@ -10,13 +10,33 @@ ghost use Rattle.chip_trial.specs.Cases.{row_of};
 ghost use Rattle.chip_trial.specs.Table.{table};
 ghost use Rattle.chip_trial.specs.Laws.{TableRight};
 
-pub use datasheet::Part;
+mod sessions;
+#[cfg(test)]
+mod tests;
 
-/// A session put to the pins in SPI mode 0: the first `bits` bits of the bytes.
+pub use datasheet::Part;
+use sessions::*;
+
+/// What HOLD does in a session.
+#[derive(Clone, Copy, Debug, PartialEq, Eq)]
+pub enum Hold {
+    /// It stays high.
+    High,
+    /// Behind so many bits these samples are put, in which it falls and is let go.
+    Amid {
+        behind: usize,
+        samples: &'static [u8],
+    },
+    /// It is low when CS falls with SCK low, and is let go with SCK high.
+    LowAtTheStart,
+}
+
+/// A session put to the pins in SPI mode 0: the first `bits` bits of the bytes, and what HOLD does in it.
 #[derive(Clone, Copy, Debug, PartialEq, Eq)]
 pub struct TrialSession {
     pub bytes: &'static [u8],
     pub bits: usize,
+    pub hold: Hold,
 }
 
 /// A byte that the chip must have put into a cell.
@@ -37,66 +57,6 @@ pub struct PinCase {
     pub seen: &'static [u8],
     pub changed: &'static [Change],
 }
-
-const WREN: TrialSession = TrialSession {
-    bytes: &[0x06],
-    bits: 8,
-};
-
-const WREN_SEVEN_BITS: TrialSession = TrialSession {
-    bytes: &[0x06],
-    bits: 7,
-};
-
-const WRSR_8C: TrialSession = TrialSession {
-    bytes: &[0x01, 0x8C],
-    bits: 16,
-};
-
-const RDSR: TrialSession = TrialSession {
-    bytes: &[0x05, 0],
-    bits: 16,
-};
-
-const SLEEP: TrialSession = TrialSession {
-    bytes: &[0xB9],
-    bits: 8,
-};
-
-const SLEEP_NINE_BITS: TrialSession = TrialSession {
-    bytes: &[0xB9, 0],
-    bits: 9,
-};
-
-const WRITE_AT_THE_END: TrialSession = TrialSession {
-    bytes: &[0x02, 0x1F, 0xFF, 0xAA, 0xBB],
-    bits: 40,
-};
-
-const READ_AT_THE_END: TrialSession = TrialSession {
-    bytes: &[0x03, 0x1F, 0xFF, 0, 0],
-    bits: 40,
-};
-
-const WRITE_AT_THE_EDGE: TrialSession = TrialSession {
-    bytes: &[0x02, 0x17, 0xFF, 0xAA, 0xBB],
-    bits: 40,
-};
-
-const READ_AT_THE_EDGE: TrialSession = TrialSession {
-    bytes: &[0x03, 0x17, 0xFF, 0, 0],
-    bits: 40,
-};
-
-const WRITE_FIFTEEN_BITS: TrialSession = TrialSession {
-    bytes: &[0x02, 0x00, 0x10, 0xAA, 0xBB],
-    bits: 39,
-};
-
-const READ_FIFTEEN_BITS: TrialSession = TrialSession {
-    bytes: &[0x03, 0x00, 0x10, 0, 0],
-    bits: 40,
-};
 
 /// WREN, WRSR 8Ch, RDSR: the latch stays on an MB85RS64VY
 const LATCH_KEPT: PinCase = PinCase {
@@ -155,7 +115,7 @@ const FIFTEEN_BITS: PinCase = PinCase {
     part: Part::Mb85rs64vy,
     stored: 0,
     before: &[WREN, WRITE_FIFTEEN_BITS],
-    last: READ_FIFTEEN_BITS,
+    last: READ_TWO,
     seen: &[0xFF, 0xFF, 0xFF, 0xAA, 0],
     changed: &[Change {
         cell: 0x0010,
@@ -203,6 +163,133 @@ const AWAKE_AGAIN: PinCase = PinCase {
     changed: &[],
 };
 
+/// HOLD let go at the other level of SCK inside an op-code: WREN does not set the latch
+const LET_GO_IN_OP_CODE: PinCase = PinCase {
+    part: Part::Mb85rs64vy,
+    stored: 0,
+    before: &[WREN_LET_GO],
+    last: RDSR,
+    seen: &[0xFF, 0x00],
+    changed: &[],
+};
+
+/// inside an address: WRITE writes nothing
+const LET_GO_IN_ADDRESS: PinCase = PinCase {
+    part: Part::Mb85rs64vy,
+    stored: 0,
+    before: &[WREN, WRITE_LET_GO_IN_ADDRESS],
+    last: READ_TWO,
+    seen: &[0xFF, 0xFF, 0xFF, 0, 0],
+    changed: &[],
+};
+
+/// inside the second data byte of WRITE: the first stands, and the second is not written
+const LET_GO_IN_DATA: PinCase = PinCase {
+    part: Part::Mb85rs64vy,
+    stored: 0,
+    before: &[WREN, WRITE_LET_GO_IN_DATA],
+    last: READ_TWO,
+    seen: &[0xFF, 0xFF, 0xFF, 0xAA, 0],
+    changed: &[Change {
+        cell: 0x0010,
+        byte: 0xAA,
+    }],
+};
+
+/// while RDSR shows the status: SO is high-Z from there on
+const LET_GO_IN_STATUS: PinCase = PinCase {
+    part: Part::Mb85rs64vy,
+    stored: 0,
+    before: &[WREN],
+    last: RDSR_LET_GO_IN_STATUS,
+    seen: &[0xFF, 0x0F],
+    changed: &[],
+};
+
+/// behind the eight bits of SLEEP: the chip does not sleep
+const LET_GO_BEHIND_SLEEP: PinCase = PinCase {
+    part: Part::Mb85rs64vy,
+    stored: 0,
+    before: &[SLEEP_LET_GO],
+    last: RDSR,
+    seen: &[0xFF, 0x00],
+    changed: &[],
+};
+
+/// in a session that began asleep: its end wakes the chip
+const LET_GO_ASLEEP: PinCase = PinCase {
+    part: Part::Mb85rs64vy,
+    stored: 0,
+    before: &[SLEEP, RDSR_LET_GO_IN_OP_CODE],
+    last: RDSR,
+    seen: &[0xFF, 0x00],
+    changed: &[],
+};
+
+/// behind a WRSR on an MB85RS256B: the byte is stored, and the latch stays
+const LET_GO_BEHIND_WRSR: PinCase = PinCase {
+    part: Part::Mb85rs256b,
+    stored: 0,
+    before: &[WREN, WRSR_8C_LET_GO],
+    last: RDSR,
+    seen: &[0xFF, 0x8E],
+    changed: &[],
+};
+
+/// HOLD low when CS falls, and let go at the other level of SCK: WREN does not set the latch
+const LOW_WHEN_CS_FALLS: PinCase = PinCase {
+    part: Part::Mb85rs64vy,
+    stored: 0,
+    before: &[WREN_LOW_AT_THE_START],
+    last: RDSR,
+    seen: &[0xFF, 0x00],
+    changed: &[],
+};
+
+/// HOLD falls in the sample of a rise and is let go with SCK low: WREN does not set the latch
+const LET_GO_LOW: PinCase = PinCase {
+    part: Part::Mb85rs64vy,
+    stored: 0,
+    before: &[WREN_LET_GO_LOW],
+    last: RDSR,
+    seen: &[0xFF, 0x00],
+    changed: &[],
+};
+
+/// HOLD falls in the sample of a rise, SCK moves meanwhile, and HOLD is released at the level of its fall: WREN sets the latch
+const HELD_AND_RELEASED: PinCase = PinCase {
+    part: Part::Mb85rs64vy,
+    stored: 0,
+    before: &[WREN_HELD],
+    last: RDSR,
+    seen: &[0xFF, 0x02],
+    changed: &[],
+};
+
+/// CS rises in the sample that lets HOLD go at the other level, behind the eight bits of SLEEP: the session ends as ever, and the
+/// chip sleeps
+const CS_RISES_AT_RELEASE: PinCase = PinCase {
+    part: Part::Mb85rs64vy,
+    stored: 0,
+    before: &[SLEEP_ENDED_AT_RELEASE],
+    last: RDSR,
+    seen: &[0xFF, 0xFF],
+    changed: &[],
+};
+
+/// inside the second data byte of a WRITE on an MB85RS256B: the first stands, and the latch stays
+const LET_GO_IN_WRITE: PinCase = PinCase {
+    part: Part::Mb85rs256b,
+    stored: 0,
+    before: &[WREN, WRITE_LET_GO_IN_DATA],
+    last: RDSR,
+    seen: &[0xFF, 0x02],
+    changed: &[Change {
+        cell: 0x0010,
+        byte: 0xAA,
+    }],
+};
+
 /// A row of a window: a window of `count` cells from `offset` on, over plain memory of so many cells, and the size that it
 /// must have.
 #[derive(Clone, Copy, Debug, PartialEq, Eq)]
@@ -242,7 +329,7 @@ pub fn case_count() -> usize
     ensures count { result ≡ length table }
     ensures law { TableRight }
 {
-    11
+    23
 }
 
 /// Row `i` of the table, from 0; none behind the last.
@@ -260,208 +347,20 @@ pub fn case_at(i: usize) -> Option<Case>
         6 => Some(Case::Pins(NINE_BITS)),
         7 => Some(Case::Pins(ASLEEP)),
         8 => Some(Case::Pins(AWAKE_AGAIN)),
-        9 => Some(Case::Window(THREE_LEFT)),
-        10 => Some(Case::Window(NONE_LEFT)),
+        9 => Some(Case::Pins(LET_GO_IN_OP_CODE)),
+        10 => Some(Case::Pins(LET_GO_IN_ADDRESS)),
+        11 => Some(Case::Pins(LET_GO_IN_DATA)),
+        12 => Some(Case::Pins(LET_GO_IN_STATUS)),
+        13 => Some(Case::Pins(LET_GO_BEHIND_SLEEP)),
+        14 => Some(Case::Pins(LET_GO_ASLEEP)),
+        15 => Some(Case::Pins(LET_GO_BEHIND_WRSR)),
+        16 => Some(Case::Pins(LOW_WHEN_CS_FALLS)),
+        17 => Some(Case::Pins(LET_GO_LOW)),
+        18 => Some(Case::Pins(HELD_AND_RELEASED)),
+        19 => Some(Case::Pins(CS_RISES_AT_RELEASE)),
+        20 => Some(Case::Pins(LET_GO_IN_WRITE)),
+        21 => Some(Case::Window(THREE_LEFT)),
+        22 => Some(Case::Window(NONE_LEFT)),
         _ => None,
-    }
-}
-
-#[cfg(test)]
-mod tests {
-    use super::*;
-    use board::{Board, Plain, ReadBoard};
-    use board_model::Range;
-    use board_shield::Shield;
-    use board_window::Window;
-    use chip::{Chip, ParkedChip};
-    use datasheet::{Marks, Refusal, Sample, Sheet};
-    use script::{Counts, chip_visit};
-    use std::alloc::Global;
-    use std::process::Abort;
-    use std::test::Fail;
-
-    /// Clocks the first `bits` bits of a byte, and answers what is read at the rises, high-Z as ones. The demo has its like, which
-    /// goes on after a refused sample, where a test fails.
-    fn clock(chip: &mut Chip<'_>, byte: u8, bits: usize) -> Result<u8, Fail> {
-        let mut read = 0;
-        for i in 0..bits.min(8) {
-            let mask = 0x80u8 >> i;
-            let fall = Sample {
-                si: byte & mask != 0,
-                ..Sample::selected()
-            };
-            let rise = Sample { sck: true, ..fall };
-            if chip.sample(u8::from(rise))?.bit() {
-                read |= mask;
-            }
-            let _ = chip.sample(u8::from(fall))?;
-        }
-        Ok(read)
-    }
-
-    /// Puts a session to the pins of the chip, and answers the bytes that are read.
-    fn put_session(
-        alloc: Global,
-        chip: &mut Chip<'_>,
-        session: &TrialSession,
-    ) -> Result<Vec<u8>, Fail> {
-        let mut read = Vec::new(alloc);
-        // the bits that are left, since the last byte may be cut
-        let mut left = session.bits;
-        let _ = chip.sample(u8::from(Sample::selected()))?;
-        for byte in session.bytes {
-            read.push(clock(chip, *byte, left)?)?;
-            left = left.saturating_sub(8);
-        }
-        let _ = chip.sample(u8::from(Sample::deselected()))?;
-        Ok(read)
-    }
-
-    /// Sends all sessions of a row, and answers the bytes that are read in the last of them.
-    fn send_all(alloc: Global, chip: &mut Chip<'_>, case: &PinCase) -> Result<Vec<u8>, Fail> {
-        for session in case.before {
-            let _ = put_session(alloc, chip, session)?;
-        }
-        put_session(alloc, chip, &case.last)
-    }
-
-    /// Sends the sessions of a row to a chip over a memory of zeros, and looks at what is read and kept.
-    fn run_pins(rt: &(impl Abort + Alloc<A = Global>), case: &PinCase) -> Result<(), Fail> {
-        let alloc = rt.alloc();
-        let f = match case.part {
-            Part::Mb85rs256b => 0x09,
-            _ => 0x02,
-        };
-        let sheet = Sheet::of(case.part, 0, f);
-        let mut memory = vec![in alloc; 0u8; sheet.cells()]?;
-        let mut chip = ParkedChip::new(sheet, case.stored).power(&mut memory);
-        let sent = send_all(alloc, &mut chip, case);
-        let _ = chip.power_off().into_parts();
-        assert_eq!(rt; sent?.as_slice(), case.seen);
-        for change in case.changed {
-            assert_eq!(rt; memory.get(change.cell).copied(), Some(change.byte));
-            if let Some(cell) = memory.get_mut(change.cell) {
-                *cell = 0;
-            }
-        }
-        assert!(rt; memory.iter().all(|byte| *byte == 0));
-        Ok(())
-    }
-
-    /// Builds the window of a row, and looks at its size.
-    fn run_window(rt: &(impl Abort + Alloc<A = Global>), case: &WindowCase) -> Result<(), Fail> {
-        let mut memory = vec![in rt.alloc(); 0u8; case.cells]?;
-        let mut window = Window::new(Plain::new(&mut memory), case.offset, case.count);
-        assert_eq!(rt; window.size(), case.size);
-        Ok(())
-    }
-
-    #[test]
-    fn chip_and_windows_do_what_the_table_says(rt: HostRuntime) -> Result<(), Fail> {
-        for i in 0..case_count() {
-            let case = case_at(i).ok_or("a row is missing")?;
-            match case {
-                Case::Pins(pins) => run_pins(&rt, &pins)?,
-                Case::Window(window) => run_window(&rt, &window)?,
-            }
-        }
-        assert!(rt; case_at(case_count()).is_none());
-        Ok(())
-    }
-
-    /// What a run of this script on a blank chip answers, with this answer buffer.
-    fn blank_run(script: &[u8], buffer: &mut [u8]) -> Result<Counts, Refusal> {
-        let mut memory = [0; 16];
-        let parked = ParkedChip::new(Sheet::of(Part::Mb85rs64vy, 0, 0x02), 0);
-        let (result, parked) = chip_visit(parked, &mut memory, script, buffer);
-        let _ = parked.into_parts();
-        result
-    }
-
-    #[test]
-    fn calls_are_refused_as_they_must(rt: HostRuntime) {
-        let marks = Marks {
-            drop: false,
-            sleep: false,
-            fast: false,
-        };
-        assert_eq!(rt; Sheet::new(0x20, 0, marks), Err(Refusal::NoSheet));
-        assert_eq!(rt; Sheet::new(0x05, 0, marks).map(Sheet::cells), Ok(32768));
-        let sheet = Sheet::of(Part::Mb85rs64vy, 0, 0x02);
-        assert_eq!(rt; sheet.check_memory(&[0; 8191]), Err(Refusal::MemoryLength));
-        assert_eq!(rt; sheet.check_memory(&[0; 8192]), Ok(()));
-        assert_eq!(rt;
-            blank_run(&[0x02, 0x09], &mut [0; 36]),
-            Err(Refusal::UnknownKind { place: 1 })
-        );
-        assert_eq!(rt;
-            blank_run(&[0x02, 0x01], &mut [0; 36]),
-            Err(Refusal::ShortStep { place: 1 })
-        );
-        assert_eq!(rt;
-            blank_run(&[0x02, 0x02], &mut [0; 9]),
-            Err(Refusal::ShortBuffer)
-        );
-        assert_eq!(rt;
-            blank_run(&[0x02, 0x02], &mut [0; 18]),
-            Ok(Counts { steps: 2, bytes: 2 })
-        );
-    }
-
-    #[test]
-    fn a_refusal_says_why(rt: HostRuntime) -> Result<(), Fail> {
-        let alloc = rt.alloc();
-        let fault = format!(in alloc; "{}", Refusal::UnknownKind { place: 3 })?;
-        let fence = format!(in alloc; "{}", Refusal::Fenced)?;
-        assert_eq!(rt;
-            fault.as_str(),
-            "the kind of the step at byte 3 is not known to this run"
-        );
-        assert_eq!(rt;
-            fence.as_str(),
-            "a cell in the range of the write is fenced"
-        );
-        Ok(())
-    }
-
-    #[test]
-    fn a_blank_chip_shows_and_changes_nothing(rt: HostRuntime) -> Result<(), Fail> {
-        let mut memory = [0x5A; 3];
-        let mut chip = ParkedChip::new(Sheet::of(Part::Mb85rs64vy, 0, 0x02), 0).power(&mut memory);
-        let sent = put_session(rt.alloc(), &mut chip, &WRITE_AT_THE_END);
-        let beyond = chip.sample(0x20);
-        let _ = chip.power_off().into_parts();
-        assert_eq!(rt; sent?.as_slice(), [0xFF; 5].as_slice());
-        assert_eq!(rt; beyond, Err(Refusal::NotASample));
-        assert_eq!(rt; memory, [0x5A; 3]);
-        Ok(())
-    }
-
-    #[test]
-    fn a_read_of_no_cells_reaches_to_the_end(rt: HostRuntime) {
-        let mut memory = [0; 8192];
-        let mut board = Plain::new(&mut memory);
-        assert_eq!(rt; board.read(8192, &mut []), Ok(()));
-        assert_eq!(rt; board.read(8193, &mut []), Err(Refusal::OutOfRange));
-    }
-
-    #[test]
-    fn a_write_of_no_cells_passes_a_fence(rt: HostRuntime) {
-        let mut memory = [0; 8];
-        let mut board = Shield::new(Plain::new(&mut memory));
-        assert_eq!(rt; board.add(Range { start: 3, count: 1 }), Ok(()));
-        assert_eq!(rt; board.write(3, &[]), Ok(()));
-        assert_eq!(rt; board.write(3, &[0xAA]), Err(Refusal::Fenced));
-        assert_eq!(rt; board.write(3, &[0xAA; 6]), Err(Refusal::OutOfRange));
-        assert_eq!(rt; board.write(4, &[0xAA; 4]), Ok(()));
-        assert_eq!(rt; board.widen(1, 1), Err(Refusal::OutOfRange));
-        for _ in 1..8 {
-            assert_eq!(rt; board.add(Range { start: 0, count: 0 }), Ok(()));
-        }
-        assert_eq!(rt;
-            board.add(Range { start: 0, count: 0 }),
-            Err(Refusal::ShieldFull)
-        );
-        assert_eq!(rt; memory, [0, 0, 0, 0, 0xAA, 0xAA, 0xAA, 0xAA]);
     }
 }

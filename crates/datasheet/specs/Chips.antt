@@ -1,15 +1,18 @@
 -- The pins of a fitted chip: how a sample is judged by the last sample and the session together. This is the
 -- same whatever is kept of a session's bits, so it is written once, over a `Keeping`. `whole` keeps every bit
 -- and is the rules.
-use Rattle.std.specs.Prelude.{Bool, if◌then◌else◌, not, ◌&&◌, List, [], ◌∷◌, ◌++◌}
+use Rattle.std.specs.Prelude.{Bool, false, if◌then◌else◌, not, ◌&&◌, List, [], ◌∷◌, ◌++◌}
 use Rattle.datasheet.specs.declared.sheet.Sheet.{Sheet}
 use Rattle.datasheet.specs.declared.level.Level.{Level}
 use Rattle.datasheet.specs.declared.level.Level.TheVariants.{HighZ}
+use Rattle.datasheet.specs.declared.course.Course.{Course}
+use Rattle.datasheet.specs.declared.course.Course.TheVariants.{Running, Held, Spoiled}
 use Rattle.datasheet.specs.declared.sample.Sample.{Sample}
 use Rattle.datasheet.specs.Records.{Record, waking}
 use Rattle.datasheet.specs.Rises.{after_rise}
 use Rattle.datasheet.specs.Falls.{after_fall}
 use Rattle.datasheet.specs.Ends.{after_end}
+use Rattle.datasheet.specs.Courses.{runs, is_spoiled, course_after}
 
 -- what is kept of a session, and the rules that read it
 pub record Keeping : Type 1 where
@@ -37,11 +40,11 @@ whole =
       ends = after_end;
     }
 
--- an open session: the last levels of SCK and HOLD, what is kept of its bits, and what SO shows while HOLD is
--- high; CS was low
+-- an open session: the last level of SCK, its course, what is kept of its bits, and what SO shows while it
+-- runs; CS was low
 pub record OpenSession (S : Type 0) : Type 0 where
   pub sck : Bool
-  pub hold : Bool
+  pub course : Course
   pub kept : S
   pub so : Level
 
@@ -77,10 +80,17 @@ module _ (K : Keeping) (s : Sheet) where
   abbrev pub closed : Record → K.Kept → Record
   closed r k = if r.asleep then waking r else K.ends s r k
 
+  -- the same by the course of the session: the end of a spoiled one acts as for no command, so that all it can
+  -- do is to wake a sleeping chip
+  abbrev pub closed_in : Course → Record → K.Kept → Record
+  closed_in Running r k = closed r k
+  closed_in (Held sck) r k = closed r k
+  closed_in Spoiled r k = waking r
+
   -- ## A sample
 
-  -- CS low and HOLD high in both samples, SCK at the level sck in the last one: `now` is the session at the
-  -- levels of the new sample x
+  -- a session that runs on, SCK at the level sck in the last sample: `now` is the session at the levels of the
+  -- new sample x
   abbrev pub edge : Record → Bool → OpenSession K.Kept → Sample → Turn K.Kept
   edge r sck now x =
       -- a rise takes SI as the next bit, and leaves SO
@@ -97,18 +107,24 @@ module _ (K : Keeping) (s : Sheet) where
   judged r deselected x =
       -- deselected, and still so
       if x.cs then turn r deselected
-      -- a session begins with no bit taken, SO is high-Z, and no clock edge counts
-      else turn r (selected (record { sck = x.sck; hold = x.hold; kept = K.begin; so = HighZ }))
+      -- a session begins with no bit taken, held if HOLD is low; SO is high-Z, and no clock edge counts
+      else turn r (selected (record { sck = x.sck; course = course_after Running x; kept = K.begin; so = HighZ }))
   judged r (selected last) x =
-      let now : OpenSession K.Kept = record last { sck = x.sck; hold = x.hold } in
+      let now : OpenSession K.Kept = record last { sck = x.sck; course = course_after last.course x } in
       -- the session ends
-      if x.cs then turn (closed r last.kept) deselected
-      -- HOLD high in both: an edge of SCK counts
-      else if last.hold && x.hold then edge r last.sck now x
-      -- HOLD low in either: none does
+      if x.cs then turn (closed_in last.course r last.kept) deselected
+      -- it ran, and HOLD is high: an edge of SCK counts
+      else if runs last.course && x.hold then edge r last.sck now x
+      -- HOLD low, just released, or a spoiled session: none does
       else turn r (selected now)
 
--- SO: high-Z while deselected and while HOLD is low; at release it shows what it showed before
+-- SO: high-Z while deselected, while HOLD is low, and in a spoiled session; when a session runs again it shows
+-- what it showed before
 abbrev pub output : {S : Type 0} → PinState S → Level
 output deselected = HighZ
-output (selected o) = if o.hold then o.so else HighZ
+output (selected o) = if runs o.course then o.so else HighZ
+
+-- whether there is a spoiled session
+abbrev pub in_spoiled : {S : Type 0} → PinState S → Bool
+in_spoiled deselected = false
+in_spoiled (selected o) = is_spoiled o.course

@@ -36,7 +36,7 @@ kept s bits =
 -- a chip that keeps this of its session
 abbrev pub kept_pins : Sheet → PinState (List Bool) → PinState Registers
 kept_pins s deselected = deselected
-kept_pins s (selected o) = selected (record { sck = o.sck; hold = o.hold; kept = kept s o.kept; so = o.so })
+kept_pins s (selected o) = selected (record { sck = o.sck; course = o.course; kept = kept s o.kept; so = o.so })
 
 abbrev pub kept_chip : ChipState (List Bool) → ChipState Registers
 kept_chip c = record { sheet = c.sheet; fitted = c.fitted; rec = c.rec; pins = kept_pins c.sheet c.pins }

@@ -16,6 +16,7 @@ pub mod Rises
 pub mod Falls
 pub mod Ends
 pub mod Samples
+pub mod Courses
 pub mod Chips
 pub mod Calls
 pub mod Pasts

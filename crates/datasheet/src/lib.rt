@@ -5,6 +5,7 @@
 #![tactic(auto)]
 
 mod command;
+mod course;
 mod level;
 mod part;
 mod refusal;
@@ -13,6 +14,7 @@ mod sample;
 mod sheet;
 
 pub use command::Command;
+pub use course::Course;
 pub use level::Level;
 pub use part::Part;
 pub use refusal::Refusal;

@@ -84,9 +84,9 @@ fn session(chip: &mut Chip<'_>, sent: &[u8], read: &mut [u8]) {
     deselect(chip);
 }
 
-/// HOLD goes low, SCK runs on for some clocks that do not count, and HOLD is released with SCK low. Answers what SO showed
-/// while HOLD was low.
-fn hold(chip: &mut Chip<'_>, clocks: u8) -> Level {
+/// HOLD goes low with SCK low, SCK runs on for some clocks that do not count, and HOLD is released with SCK at this level; SCK
+/// is low at the end. Answers what SO showed while HOLD was low.
+fn hold(chip: &mut Chip<'_>, clocks: u8, sck: bool) -> Level {
     let mut shown = put(chip, held());
     for _ in 0..clocks {
         let _ = put(
@@ -98,6 +98,14 @@ fn hold(chip: &mut Chip<'_>, clocks: u8) -> Level {
         );
         shown = put(chip, held());
     }
+    let _ = put(chip, Sample { sck, ..held() });
+    let _ = put(
+        chip,
+        Sample {
+            sck,
+            ..Sample::selected()
+        },
+    );
     let _ = put(chip, Sample::selected());
     shown
 }
@@ -173,17 +181,14 @@ impl Visit<'_, '_> {
         self.tell("  READ ", &[0x03, 0x02, 0x00, 0, 0])
     }
 
-    /// HOLD pulled low inside an address.
-    fn held_address(&mut self) -> io::Result<()> {
+    /// HOLD pulled low inside an address with SCK low, and released with SCK at this level.
+    fn held_address(&mut self, sck: bool) -> io::Result<()> {
         let rt = self.rt;
-        println!(rt;
-            "HOLD is pulled low inside the address of a read: no clock counts until it is released."
-        )?;
         select(self.chip);
         let _ = clock(self.chip, 0x03, 8);
         let _ = clock(self.chip, 0x01, 8);
         let _ = clock(self.chip, 0x00, 3);
-        let shown = hold(self.chip, 5);
+        let shown = hold(self.chip, 5, sck);
         let _ = clock(self.chip, 0x00, 5);
         let first = clock(self.chip, 0, 8);
         let second = clock(self.chip, 0, 8);
@@ -191,6 +196,19 @@ impl Visit<'_, '_> {
         println!(rt;
             "  READ : sent 03 01 00 with five held clocks, SO {shown} while held, then read {first:02X} {second:02X}"
         )
+    }
+
+    /// HOLD released at the level of SCK at which it fell, and at the other.
+    fn held_addresses(&mut self) -> io::Result<()> {
+        let rt = self.rt;
+        println!(rt;
+            "HOLD is pulled low inside the address of a read: no clock counts until it is released."
+        )?;
+        self.held_address(false)?;
+        println!(rt;
+            "It falls with SCK low again, but is released with SCK high: the session is spoiled."
+        )?;
+        self.held_address(true)
     }
 
     /// Sleep and waking.
@@ -221,7 +239,7 @@ impl Visit<'_, '_> {
         self.pressures()?;
         self.protected_edge()?;
         self.cut_short()?;
-        self.held_address()?;
+        self.held_addresses()?;
         self.sleep()?;
         self.refused()?;
         println!(rt;

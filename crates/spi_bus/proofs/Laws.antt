@@ -1,8 +1,9 @@
 -- The laws of buses, as the contracts of the code name them.
 use Rattle.datasheet.specs.Chips.{whole}
 use Rattle.datasheet.specs.Kept.{bounded}
-use Rattle.spi_model.specs.Laws.{ByteAtPins, Makes, Follows, LineIsBus, Same, BothBuses, SessionSamples, AsCalls, BlankReadsOnes, BusKeepsEnough, StaysWhole}
+use Rattle.spi_model.specs.Laws.{ByteAtPins, Makes, Follows, NeverSpoils, LineIsBus, Same, BothBuses, SessionSamples, AsCalls, BlankReadsOnes, BusKeepsEnough, StaysWhole}
 use Rattle.spi_model.proofs.Calls.{byte_at_pins, makes, follows_whole, follows_bounded, line_is_bus, same as same-lines}
+use Rattle.spi_model.proofs.Samples.{never_spoils}
 use Rattle.spi_model.proofs.Sessions.{session_samples}
 use Rattle.spi_model.proofs.AsCalls.{put_as_calls}
 use Rattle.spi_model.proofs.Blank.{blank_reads_ones}
@@ -21,6 +22,10 @@ made = (makes whole, makes bounded)
 -- the calls of a line are those of a bus
 pub followed : (Follows whole) × (Follows bounded)
 followed = (follows_whole, follows_bounded)
+
+-- a line spoils no session
+pub unspoiled : (NeverSpoils whole) × (NeverSpoils bounded)
+unspoiled = (never_spoils whole follows_whole, never_spoils bounded follows_bounded)
 
 -- a line is a bus, from any state of its chip
 pub lines : (LineIsBus whole) × (LineIsBus bounded)

@@ -10,7 +10,7 @@ ghost use Rattle.spi_model.specs.Buses.{exchanged, read};
 ghost use Rattle.spi_model.specs.Meanings.{kept_of, made, AtRest};
 ghost use Rattle.spi_model.proofs.Aligned.{session_whole};
 ghost use Rattle.spi_model.proofs.Rests.{pins_at_prop};
-ghost use Rattle.spi_model.specs.Laws.{ByteAtPins, Follows, Makes};
+ghost use Rattle.spi_model.specs.Laws.{ByteAtPins, Follows, Makes, NeverSpoils};
 
 use crate::clock::put_byte;
 use crate::{Setting, SpiBus};
@@ -33,7 +33,7 @@ impl<P: Pins> Line<P> {
     ghost use Rattle.spi_bus.specs.Views.{line_meaning};
 
     /// A line to these pins. One sample with CS high ends any session of the chip.
-    #[tactic(auto, using(crate::proofs::Laws::made))]
+    #[tactic(auto, using(crate::proofs::Laws::made, crate::proofs::Laws::unspoiled))]
     pub fn new(pins: P, setting: Setting) -> Line<P>
         ensures put { P.chip result.pins ≡
             puts bounded (P.chip pins) (rises setting.mode setting.wp ∷ []) }
@@ -44,6 +44,7 @@ impl<P: Pins> Line<P> {
         ensures in_session { result.in_session ≡ false }
         ensures lent { P.lent result.pins ≡ P.lent pins }
         ensures law { (Makes whole) × (Makes bounded) }
+        ensures unspoiled { (NeverSpoils whole) × (NeverSpoils bounded) }
     {
         let mut pins = pins;
         let _ = pins.put(setting.mode.chip_select(setting.wp, true));

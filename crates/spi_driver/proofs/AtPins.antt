@@ -2,13 +2,15 @@
 use Rattle.std.proofs.Common.{◌≡◌, ℕ, ◌<◌, Bool, true, false, cond, List, ◌∷◌, length, slice_index, Option, Ok, sym, refl, ap, ◌∙◌, subst, arith}
 use Rattle.std.proofs.lemmas.Bool.{eq-eqb}
 use Rattle.datasheet.specs.declared.registers.Registers.{Registers}
+use Rattle.datasheet.specs.declared.course.Course.{Course}
+use Rattle.datasheet.specs.declared.course.Course.TheVariants.{Running, Held, Spoiled}
 use Rattle.datasheet.specs.declared.sheet.Sheet.{Sheet}
 use Rattle.datasheet.specs.declared.command.Command.{Command}
 use Rattle.datasheet.specs.Records.{Record, waking}
 use Rattle.datasheet.specs.Sessions.{command}
 use Rattle.datasheet.specs.Ends.{ended}
 use Rattle.datasheet.specs.Memory.{SoundMemory}
-use Rattle.datasheet.specs.Chips.{PinState, deselected, selected, whole, closed}
+use Rattle.datasheet.specs.Chips.{PinState, deselected, selected, whole, closed, closed_in}
 use Rattle.datasheet.specs.Calls.{ChipState}
 use Rattle.datasheet.specs.Kept.{bounded}
 use Rattle.spi_model.specs.declared.mode.Mode.{Mode}
@@ -44,6 +46,11 @@ closed_memory s r bits = go r.asleep
     go true = refl
     go false = ended_memory s (command s bits) r (length bits)
 
+closed_in_memory : (s : Sheet) (course : Course) (r : Record) (bits : List Bool) → (closed_in whole s course r bits).memory ≡ r.memory
+closed_in_memory s Running r bits = closed_memory s r bits
+closed_in_memory s (Held sck) r bits = closed_memory s r bits
+closed_in_memory s Spoiled r bits = refl
+
 module _ (mode : Mode) (wp : Bool) (waits : ℕ) (start : ℕ) (bytes : List ℕ) (count : ℕ) (are : (i : ℕ) → slice_index bytes i < 256) where
   -- what is to be shown of a chip
   abbrev Holds : ChipState (List Bool) → Type 0
@@ -60,7 +67,7 @@ module _ (mode : Mode) (wp : Bool) (waits : ℕ) (start : ℕ) (bytes : List ℕ
 
     memory_same : (q : PinState (List Bool)) → (made whole wp (record { sheet = s; fitted = true; rec = r; pins = q })).rec.memory ≡ r.memory
     memory_same deselected = refl
-    memory_same (selected o) = closed_memory s r o.kept
+    memory_same (selected o) = closed_in_memory s o.course r o.kept
 
     fitted_holds : SoundMemory s true r.memory → Holds chip
     unfolding transfer_calls

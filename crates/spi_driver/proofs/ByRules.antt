@@ -1,11 +1,13 @@
 -- What a transfer comes to, by the rules over the full list of bits.
 use Rattle.std.proofs.Common.{◌≡◌, ℕ, Bool, cond, List, None, refl, ap, ◌∙◌}
 use Rattle.datasheet.specs.declared.registers.Registers.{Registers}
+use Rattle.datasheet.specs.declared.course.Course.{Course}
+use Rattle.datasheet.specs.declared.course.Course.TheVariants.{Running, Held, Spoiled}
 use Rattle.datasheet.specs.declared.sheet.Sheet.{Sheet}
 use Rattle.datasheet.specs.Records.{Record, waking}
-use Rattle.datasheet.specs.Chips.{PinState, PinState.deselected, PinState.selected, whole}
+use Rattle.datasheet.specs.Chips.{PinState, PinState.deselected, PinState.selected, whole, closed_in}
 use Rattle.datasheet.specs.Calls.{ChipState, powered, run}
-use Rattle.datasheet.specs.Kept.{bounded, kept_chip}
+use Rattle.datasheet.specs.Kept.{bounded, kept, kept_chip}
 use Rattle.chip_laws.proofs.Follow.{enough}
 use Rattle.chip_laws.proofs.Simulation.{end_same}
 use Rattle.spi_model.specs.Buses.{Bus}
@@ -15,13 +17,20 @@ use Rattle.spi_driver.specs.Left.{samples, left_in}
 use Rattle.spi_driver.specs.declared.transfers.TransferOutcome.{TransferOutcome}
 use Rattle.spi_driver.specs.Transfers.{Transferred, transferred_to, transferred, transferred_parked, transfer_calls}
 
+-- the end of a session of which this is kept
+closed_kept : (s : Sheet) (course : Course) (r : Record) (bits : List Bool) →
+    closed_in bounded s course r (kept s bits) ≡ closed_in whole s course r bits
+closed_kept s Running r bits = ap (cond r.asleep (waking r)) (end_same s r bits)
+closed_kept s (Held sck) r bits = ap (cond r.asleep (waking r)) (end_same s r bits)
+closed_kept s Spoiled r bits = refl
+
 -- a bus made over a chip that keeps what is needed
 made_kept : (wp : Bool) (s : Sheet) (f : Bool) (r : Record) (p : PinState (List Bool)) →
     let d : ChipState (List Bool) = record { sheet = s; fitted = f; rec = r; pins = p } in
     made bounded wp (kept_chip d) ≡ kept_bus (made whole wp d)
 made_kept wp s f r deselected = refl
 made_kept wp s f r (selected o) =
-    ap (λ (q : Record). record { sheet = s; wp = wp; fitted = f; rec = cond f (cond r.asleep (waking r) q) r; session = None }) (end_same s r o.kept)
+    ap (λ (q : Record). record { sheet = s; wp = wp; fitted = f; rec = cond f q r; session = None }) (closed_kept s o.course r o.kept)
 
 -- from power on, through these samples, to the bus of a line
 pub found_kept : (s : Sheet) (memory : List ℕ) (stored : ℕ) (before : List ℕ) (wp : Bool) (c e : ChipState Registers) →

@@ -4,6 +4,7 @@ use Rattle.datasheet.specs.declared.sheet.Sheet.{Sheet}
 use Rattle.datasheet.specs.declared.level.Level.{Level}
 use Rattle.datasheet.specs.declared.level.Level.TheVariants.{HighZ}
 use Rattle.datasheet.specs.declared.sample.Sample.{Sample}
+use Rattle.datasheet.specs.declared.course.Course.TheVariants.{Running}
 use Rattle.datasheet.specs.Bits.{bits_of}
 use Rattle.datasheet.specs.Records.{Record}
 use Rattle.datasheet.specs.Chips.{Keeping, OpenSession, PinState, PinState.deselected, PinState.selected, whole, falling}
@@ -28,9 +29,9 @@ use Rattle.spi_model.proofs.Clock.{over, still, parts, so_left, bits_puts, bits_
 pub unlike : false ≡ true → ⊥
 unlike e = search rules
 
--- an open session with SCK at rest and HOLD high
-pub at_rest : {S : Type 0} (mode : Mode) (o : OpenSession S) → o.sck ≡ rest mode → o.hold ≡ true → o ≡ session_at mode o.kept o.so
-at_rest mode o e f i = record o { sck = e i; hold = f i }
+-- an open session that runs, with SCK at rest
+pub at_rest : {S : Type 0} (mode : Mode) (o : OpenSession S) → o.sck ≡ rest mode → o.course ≡ Running → o ≡ session_at mode o.kept o.so
+at_rest mode o e f i = record o { sck = e i; course = f i }
 
 -- ## A byte
 

@@ -3,10 +3,12 @@ use Rattle.std.proofs.Common.{◌≡◌, ℕ, zero, suc, Bool, true, false, List
 use Rattle.std.proofs.lemmas.List.{append_assoc}
 use Rattle.datasheet.specs.declared.sheet.Sheet.{Sheet}
 use Rattle.datasheet.specs.declared.level.Level.{Level}
+use Rattle.datasheet.specs.declared.course.Course.{Course}
+use Rattle.datasheet.specs.declared.course.Course.TheVariants.{Running, Held}
 use Rattle.datasheet.specs.declared.sample.Sample.{Sample}
 use Rattle.datasheet.specs.Records.{Record}
 use Rattle.datasheet.specs.Chips.{Keeping, selected, rising, keeping, falling}
-use Rattle.datasheet.specs.Calls.{ChipState}
+use Rattle.datasheet.specs.Calls.{ChipState, put}
 use Rattle.spi_model.specs.declared.mode.Mode.{Mode}
 use Rattle.spi_model.specs.declared.mode.Mode.TheVariants.{Mode0, Mode3}
 use Rattle.spi_model.specs.Puts.{puts, shown_by}
@@ -35,8 +37,8 @@ module _ (K : Keeping) where
 
   module _ (s : Sheet) (mode : Mode) (wp : Bool) where
     -- in a session, SCK at rest
-    abbrev pub chip_at : Record → Bool → K.Kept → Level → ChipState K.Kept
-    chip_at r hold k l = record { sheet = s; fitted = true; rec = r; pins = selected (record { sck = rest mode; hold = hold; kept = k; so = l }) }
+    abbrev pub chip_at : Record → Course → K.Kept → Level → ChipState K.Kept
+    chip_at r course k l = record { sheet = s; fitted = true; rec = r; pins = selected (record { sck = rest mode; course = course; kept = k; so = l }) }
 
     abbrev pub moment_at : Record → K.Kept → Level → Moment K.Kept
     moment_at r k l = record { rec = r; kept = k; so = next_read K mode s r k l }
@@ -46,42 +48,56 @@ module _ (K : Keeping) where
     left Mode0 r k b = falling K s (rising K s wp r k b) (keeping K s r k b)
     left Mode3 r k b = falling K s r k
 
-    module _ (b : Bool) (r : Record) (k : K.Kept) (l : Level) where
-      abbrev at : Bool → ChipState K.Kept
-      at hold = chip_at r hold k l
+  -- HOLD is released with SCK at the level at which it fell: the session runs again
+  resumes : (s : Sheet) (mode : Mode) (wp b : Bool) (r : Record) (k : K.Kept) (l : Level) →
+      put K (chip_at s mode wp r (Held (rest mode)) k l) (clock mode wp b (rest mode) true) ≡ chip_at s mode wp r Running k l
+  resumes s Mode0 wp b r k l = refl
+  resumes s Mode3 wp b r k l = refl
 
-      -- samples that hold change nothing but HOLD
-      holds_puts : (n : ℕ) (ys : List Sample) → puts K (at false) (holding mode wp n b ++ ys) ≡ puts K (at false) ys
+  module _ (s : Sheet) (mode : Mode) (wp : Bool) where
+    module _ (b : Bool) (r : Record) (k : K.Kept) (l : Level) where
+      abbrev held : ChipState K.Kept
+      held = chip_at s mode wp r (Held (rest mode)) k l
+
+      abbrev running : ChipState K.Kept
+      running = chip_at s mode wp r Running k l
+
+      -- samples that hold change nothing more
+      holds_puts : (n : ℕ) (ys : List Sample) → puts K held (holding mode wp n b ++ ys) ≡ puts K held ys
       holds_puts zero ys = refl
       holds_puts (suc n) ys = holds_puts n ys
 
-      holds_over : (n : ℕ) (ys : List Sample) → over (at false) (rest mode) (holding mode wp n b ++ ys) ≡ over (at false) (rest mode) ys
+      holds_over : (n : ℕ) (ys : List Sample) → over held (rest mode) (holding mode wp n b ++ ys) ≡ over held (rest mode) ys
       holds_over zero ys = refl
       holds_over (suc n) ys = still (rest mode) _ _ ∙ holds_over n ys
 
       -- the samples that hold and the one that releases change nothing and read nothing
       paused_puts : (n : ℕ) (ys : List Sample) →
-          puts K (at true) (holding mode wp n b ++ (releasing mode wp n b ++ ys)) ≡ puts K (at true) ys
+          puts K running (holding mode wp n b ++ (releasing mode wp n b ++ ys)) ≡ puts K running ys
       paused_puts zero ys = refl
-      paused_puts (suc n) ys = holds_puts n (clock mode wp b (rest mode) true ∷ ys)
+      paused_puts (suc n) ys =
+          holds_puts n (clock mode wp b (rest mode) true ∷ ys) ∙ ap (λ (c : ChipState K.Kept). puts K c ys) (resumes s mode wp b r k l)
 
       paused_over : (n : ℕ) (ys : List Sample) →
-          over (at true) (rest mode) (holding mode wp n b ++ (releasing mode wp n b ++ ys)) ≡ over (at true) (rest mode) ys
+          over running (rest mode) (holding mode wp n b ++ (releasing mode wp n b ++ ys)) ≡ over running (rest mode) ys
       paused_over zero ys = refl
       paused_over (suc n) ys =
-          still (rest mode) _ _ ∙ holds_over n (clock mode wp b (rest mode) true ∷ ys) ∙ still (rest mode) _ _
+          still (rest mode) _ _
+          ∙ holds_over n (clock mode wp b (rest mode) true ∷ ys)
+          ∙ still (rest mode) _ _
+          ∙ ap (λ (c : ChipState K.Kept). over c (rest mode) ys) (resumes s mode wp b r k l)
 
   -- SCK away from rest and back
   module _ (s : Sheet) (wp b : Bool) (r : Record) (k : K.Kept) (l : Level) (ys : List Sample) where
     abbrev clocked : Mode → ChipState K.Kept
-    clocked mode = chip_at s mode wp (rising K s wp r k b) true (keeping K s r k b) (left s mode wp mode r k b)
+    clocked mode = chip_at s mode wp (rising K s wp r k b) Running (keeping K s r k b) (left s mode wp mode r k b)
 
-    clock_puts : (mode : Mode) → puts K (chip_at s mode wp r true k l) (clocking mode wp b ++ ys) ≡ puts K (clocked mode) ys
+    clock_puts : (mode : Mode) → puts K (chip_at s mode wp r Running k l) (clocking mode wp b ++ ys) ≡ puts K (clocked mode) ys
     clock_puts Mode0 = refl
     clock_puts Mode3 = refl
 
     clock_over : (mode : Mode) →
-        over (chip_at s mode wp r true k l) (rest mode) (clocking mode wp b ++ ys)
+        over (chip_at s mode wp r Running k l) (rest mode) (clocking mode wp b ++ ys)
         ≡ next_read K mode s r k l ∷ over (clocked mode) (rest mode) ys
     clock_over Mode0 = refl
     clock_over Mode3 = refl
@@ -89,19 +105,19 @@ module _ (K : Keeping) where
   module _ (s : Sheet) (mode : Mode) (wp : Bool) (n : ℕ) where
     -- one bit
     bit_puts : (r : Record) (k : K.Kept) (l : Level) (b : Bool) (ys : List Sample) →
-        puts K (chip_at s mode wp r true k l) (bit_samples mode wp n b ++ ys)
-        ≡ puts K (chip_at s mode wp (rising K s wp r k b) true (keeping K s r k b) (left s mode wp mode r k b)) ys
+        puts K (chip_at s mode wp r Running k l) (bit_samples mode wp n b ++ ys)
+        ≡ puts K (chip_at s mode wp (rising K s wp r k b) Running (keeping K s r k b) (left s mode wp mode r k b)) ys
     bit_puts r k l b ys =
-        ap (puts K (chip_at s mode wp r true k l)) (parts mode wp n b ys)
+        ap (puts K (chip_at s mode wp r Running k l)) (parts mode wp n b ys)
         ∙ paused_puts s mode wp b r k l n (clocking mode wp b ++ ys)
         ∙ clock_puts s wp b r k l ys mode
 
     bit_over : (r : Record) (k : K.Kept) (l : Level) (b : Bool) (ys : List Sample) →
-        over (chip_at s mode wp r true k l) (rest mode) (bit_samples mode wp n b ++ ys)
+        over (chip_at s mode wp r Running k l) (rest mode) (bit_samples mode wp n b ++ ys)
         ≡ next_read K mode s r k l
-        ∷ over (chip_at s mode wp (rising K s wp r k b) true (keeping K s r k b) (left s mode wp mode r k b)) (rest mode) ys
+        ∷ over (chip_at s mode wp (rising K s wp r k b) Running (keeping K s r k b) (left s mode wp mode r k b)) (rest mode) ys
     bit_over r k l b ys =
-        ap (over (chip_at s mode wp r true k l) (rest mode)) (parts mode wp n b ys)
+        ap (over (chip_at s mode wp r Running k l) (rest mode)) (parts mode wp n b ys)
         ∙ paused_over s mode wp b r k l n (clocking mode wp b ++ ys)
         ∙ clock_over s wp b r k l ys mode
 
@@ -119,10 +135,10 @@ module _ (K : Keeping) where
 
     -- the chip in a session at this moment, SO showing l
     abbrev pub chip_in : Moment K.Kept → Level → ChipState K.Kept
-    chip_in m l = chip_at s mode wp m.rec true m.kept l
+    chip_in m l = chip_at s mode wp m.rec Running m.kept l
 
     pub bits_puts : (r : Record) (k : K.Kept) (l : Level) (bs : List Bool) →
-        puts K (chip_at s mode wp r true k l) (bits_samples mode wp n bs)
+        puts K (chip_at s mode wp r Running k l) (bits_samples mode wp n bs)
         ≡ chip_in (after_bits K s wp (moment_at s mode wp r k l) bs) (so_left r k l bs)
     bits_puts r k l [] = refl
     bits_puts r k l (b ∷ bs) =
@@ -134,7 +150,7 @@ module _ (K : Keeping) where
         ∙ ap (λ (m : Moment K.Kept). chip_in (after_bits K s wp m bs) (so_left r' k' l' bs)) (sym (bit_moment mode r k l b))
 
     pub bits_over : (r : Record) (k : K.Kept) (l : Level) (bs : List Bool) →
-        over (chip_at s mode wp r true k l) (rest mode) (bits_samples mode wp n bs) ≡ reads K s wp (moment_at s mode wp r k l) bs
+        over (chip_at s mode wp r Running k l) (rest mode) (bits_samples mode wp n bs) ≡ reads K s wp (moment_at s mode wp r k l) bs
     bits_over r k l [] = refl
     bits_over r k l (b ∷ bs) =
         let r' = rising K s wp r k b in

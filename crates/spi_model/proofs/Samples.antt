@@ -1,8 +1,11 @@
--- What a line does in a list of calls, its samples do to the chip; and where it has no session open, a fitted chip is deselected.
-use Rattle.std.proofs.Common.{◌≡◌, ℕ, Bool, true, false, List, [], ◌∷◌, sym, refl, ap, ◌∙◌, subst}
+-- What a line does in a list of calls, its samples do to the chip; where it has no session open, a fitted chip is deselected;
+-- and a line never spoils a session.
+use Rattle.std.proofs.Common.{◌≡◌, ℕ, Bool, true, false, List, [], ◌∷◌, sym, refl, ap, ◌∙◌, subst, arith}
 use Rattle.datasheet.specs.declared.sheet.Sheet.{Sheet}
+use Rattle.datasheet.specs.declared.sample.Sample.{Sample}
 use Rattle.datasheet.specs.Records.{Record}
-use Rattle.datasheet.specs.Chips.{Keeping, PinState, deselected, selected}
+use Rattle.datasheet.specs.Courses.{is_spoiled}
+use Rattle.datasheet.specs.Chips.{Keeping, PinState, deselected, selected, in_spoiled}
 use Rattle.datasheet.specs.Calls.{ChipState, put}
 use Rattle.datasheet.specs.Machines.{left_by}
 use Rattle.datasheet.proofs.Machines.{keeps, left_behind}
@@ -12,7 +15,7 @@ use Rattle.spi_model.specs.Puts.{puts}
 use Rattle.spi_model.specs.Samples.{rises}
 use Rattle.spi_model.specs.Lines.{AtLine, open_after, call_samples, line_made, line_after, line_run, line_samples}
 use Rattle.spi_model.specs.Meanings.{PinsAt, AtRest}
-use Rattle.spi_model.specs.Laws.{Follows}
+use Rattle.spi_model.specs.Laws.{Follows, NeverSpoils}
 use Rattle.spi_model.proofs.Calls.{unlike, makes}
 
 module _ (K : Keeping) (mode : Mode) (wp : Bool) (waits : ℕ) where
@@ -45,3 +48,19 @@ module _ (K : Keeping) (mode : Mode) (wp : Bool) (waits : ℕ) where
       let rest = subst (AtRest K mode) at_end (stays_at_rest follow c xs) fitted in
       let d : ChipState K.Kept = puts K c (rises mode wp ∷ line_samples mode wp waits false xs) in
       closed_pins d.sheet d.rec d.pins (left_by open_after false xs) rest closed
+
+module _ (K : Keeping) where
+  stays_fitted : (c : ChipState K.Kept) (xs : List Sample) → c.fitted ≡ true → (puts K c xs).fitted ≡ true
+  stays_fitted c xs f = keeps (put K) (λ d rest. d.fitted ≡ true) (λ d x rest h. grind arith) c xs f
+
+  -- a session between two calls of a line runs
+  runs_on : (mode : Mode) (s : Sheet) (r : Record) (p : PinState K.Kept) (o : Bool) → PinsAt K mode s r p o → in_spoiled p ≡ false
+  runs_on mode s r deselected o h = refl
+  runs_on mode s r (selected q) o h = ap is_spoiled h.2
+
+  pub never_spoils : Follows K → NeverSpoils K
+  never_spoils follow mode wp waits c xs f =
+      let l = line_run K mode wp waits (line_made K mode wp c) xs in
+      let made = line_made K mode wp c in
+      let fitted = ap (λ (m : AtLine K.Kept). m.chip.fitted) (as_samples K mode wp waits made xs) ∙ stays_fitted c (rises mode wp ∷ line_samples mode wp waits false xs) f in
+      runs_on mode l.chip.sheet l.chip.rec l.chip.pins l.in_session (stays_at_rest K mode wp waits follow c xs fitted)

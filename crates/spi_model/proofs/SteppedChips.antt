@@ -4,6 +4,8 @@ use Rattle.datasheet.specs.declared.registers.Registers.{Registers}
 use Rattle.datasheet.specs.declared.sheet.Sheet.{Sheet}
 use Rattle.datasheet.specs.Bits.{bits_of}
 use Rattle.datasheet.specs.declared.level.Level.{Level}
+use Rattle.datasheet.specs.declared.course.Course.{Course}
+use Rattle.datasheet.specs.declared.course.Course.TheVariants.{Running, Held, Spoiled}
 use Rattle.datasheet.specs.Records.{Record}
 use Rattle.datasheet.specs.Chips.{PinState, deselected, selected}
 use Rattle.datasheet.specs.Calls.{ChipState}
@@ -43,32 +45,34 @@ module _ (s : Sheet) (r : Record) (wp : Bool) (x : ℕ) (l : x < 256) where
   abbrev chip : Bool → PinState Registers → ChipState Registers
   chip f p = record { sheet = s; fitted = f; rec = r; pins = p }
 
-  -- in a fitted chip with a session, by the last levels of SCK and HOLD
+  -- in a fitted chip with a session, by the last level of SCK and the course
   module _ (k : Registers) (so : Level) where
-    abbrev within : Bool → Bool → ChipState Registers
-    within sck hold = chip true (selected (record { sck = sck; hold = hold; kept = k; so = so }))
+    abbrev within : Bool → Course → ChipState Registers
+    within sck course = chip true (selected (record { sck = sck; course = course; kept = k; so = so }))
 
-    stepped_within : (sck hold : Bool) → stepped_by (within sck hold) wp x ≡ stepped_once (within sck hold) wp x
-    stepped_within true hold = refl
-    stepped_within false false = refl
-    stepped_within false true =
-        cond_same (whole_bytes k) (within false true) (λ e. puts_at_once s wp (record { rec = r; kept = k; so = so }) x e l)
+    stepped_within : (sck : Bool) (course : Course) → stepped_by (within sck course) wp x ≡ stepped_once (within sck course) wp x
+    stepped_within true course = refl
+    stepped_within false (Held l) = refl
+    stepped_within false Spoiled = refl
+    stepped_within false Running =
+        cond_same (whole_bytes k) (within false Running) (λ e. puts_at_once s wp (record { rec = r; kept = k; so = so }) x e l)
 
-    read_within : (sck hold : Bool) → step_read (within sck hold) wp x ≡ read_once (within sck hold)
-    read_within true hold = refl
-    read_within false false = refl
-    read_within false true =
+    read_within : (sck : Bool) (course : Course) → step_read (within sck course) wp x ≡ read_once (within sck course)
+    read_within true course = refl
+    read_within false (Held l) = refl
+    read_within false Spoiled = refl
+    read_within false Running =
         cond_same (whole_bytes k) 0xFF (λ e. read_at_once s wp (record { rec = r; kept = k; so = so }) x e l)
 
   pub stepped_by_once : (f : Bool) (p : PinState Registers) → stepped_by (chip f p) wp x ≡ stepped_once (chip f p) wp x
   stepped_by_once f deselected = refl
   stepped_by_once false (selected o) = refl
-  stepped_by_once true (selected o) = stepped_within o.kept o.so o.sck o.hold
+  stepped_by_once true (selected o) = stepped_within o.kept o.so o.sck o.course
 
   pub step_read_once : (f : Bool) (p : PinState Registers) → step_read (chip f p) wp x ≡ read_once (chip f p)
   step_read_once f deselected = refl
   step_read_once false (selected o) = refl
-  step_read_once true (selected o) = read_within o.kept o.so o.sck o.hold
+  step_read_once true (selected o) = read_within o.kept o.so o.sck o.course
 
 -- a byte at once does what its samples in mode 0 do, and reads what is read in them
 pub ruleset once = (stepped_by_once, step_read_once)

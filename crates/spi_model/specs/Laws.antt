@@ -6,7 +6,7 @@ use Rattle.datasheet.specs.declared.level.Level.{Level}
 use Rattle.datasheet.specs.declared.sample.Sample.{Sample}
 use Rattle.datasheet.specs.Bits.{bits_of}
 use Rattle.datasheet.specs.Samples.{byte_of}
-use Rattle.datasheet.specs.Chips.{Keeping, whole}
+use Rattle.datasheet.specs.Chips.{Keeping, in_spoiled, whole}
 use Rattle.datasheet.specs.Calls.{ChipState, ChipCall, ChipCall.sample, shows, run as run_calls, answers as answers_calls}
 use Rattle.datasheet.specs.Kept.{kept, bounded}
 use Rattle.spi_model.specs.declared.mode.Mode.{Mode}
@@ -95,6 +95,13 @@ Same K =
     AtRest K mode l → AtRest K other m → meaning_of K wp l ≡ meaning_of K wp m →
     (line_answers K mode wp waits l xs ≡ line_answers K other wp pauses m xs)
     × (meaning_of K wp (line_run K mode wp waits l xs) ≡ meaning_of K wp (line_run K other wp pauses m xs))
+
+-- A line never spoils a session: made over a fitted chip in any state, in either mode and with any number of held
+-- samples, it leaves no session of its chip spoiled, just made and after each list of calls.
+abbrev pub NeverSpoils : Keeping → Type 0
+NeverSpoils K =
+    (mode : Mode) (wp : Bool) (waits : ℕ) (c : ChipState K.Kept) (xs : List BusCall) → c.fitted ≡ true →
+    in_spoiled (line_run K mode wp waits (line_made K mode wp c) xs).chip.pins ≡ false
 
 -- every byte that is sent is one
 abbrev pub Bytes : List BusCall → Type 0

@@ -2,8 +2,9 @@
 use Rattle.std.specs.Prelude.{◌≡◌, Bool, true, false, if◌then◌else◌, Some, None}
 use Rattle.datasheet.specs.declared.sheet.Sheet.{Sheet}
 use Rattle.datasheet.specs.declared.level.Level.{Level}
+use Rattle.datasheet.specs.declared.course.Course.TheVariants.{Running}
 use Rattle.datasheet.specs.Records.{Record}
-use Rattle.datasheet.specs.Chips.{Keeping, OpenSession, PinState, deselected, selected, falling, closed}
+use Rattle.datasheet.specs.Chips.{Keeping, OpenSession, PinState, deselected, selected, falling, closed_in}
 use Rattle.datasheet.specs.Calls.{ChipState}
 use Rattle.spi_model.specs.declared.mode.Mode.{Mode}
 use Rattle.spi_model.specs.declared.mode.Mode.TheVariants.{Mode0, Mode3}
@@ -12,9 +13,9 @@ use Rattle.spi_model.specs.Samples.{rest}
 use Rattle.spi_model.specs.Buses.{Bus}
 use Rattle.spi_model.specs.Lines.{AtLine}
 
--- an open session, SCK at rest and HOLD high, of which this is kept, while SO shows so
+-- an open session that runs, SCK at rest, of which this is kept, while SO shows so
 abbrev pub session_at : {S : Type 0} → Mode → S → Level → OpenSession S
-session_at mode k so = record { sck = rest mode; hold = true; kept = k; so = so }
+session_at mode k so = record { sck = rest mode; course = Running; kept = k; so = so }
 
 -- a fitted chip in such a session
 abbrev pub chip_at : {S : Type 0} → Mode → Sheet → Moment S → Level → ChipState S
@@ -25,7 +26,7 @@ module _ (K : Keeping) where
   -- the record after the end of the session, if one is open; a blank chip's stays
   abbrev pub record_ended : ChipState K.Kept → PinState K.Kept → Record
   record_ended c deselected = c.rec
-  record_ended c (selected o) = if c.fitted then closed K c.sheet c.rec o.kept else c.rec
+  record_ended c (selected o) = if c.fitted then closed_in K c.sheet o.course c.rec o.kept else c.rec
 
   -- a bus that is made over a chip: any session of it has ended
   abbrev pub made : Bool → ChipState K.Kept → Bus K.Kept
@@ -59,12 +60,12 @@ module _ (K : Keeping) where
   next_read Mode0 s r k so = so
   next_read Mode3 s r k so = falling K s r k
 
-  -- with a session open CS is low, SCK at rest and HOLD high, and the next rise reads what a fall sets SO to;
+  -- with a session open CS is low, the session runs, SCK is at rest, and the next rise reads what a fall sets SO to;
   -- with none CS is high
   abbrev pub PinsAt : Mode → Sheet → Record → PinState K.Kept → Bool → Type 0
   PinsAt mode s r deselected in_session = in_session ≡ false
   PinsAt mode s r (selected o) in_session =
-      (in_session ≡ true) × (o.sck ≡ rest mode) × (o.hold ≡ true)
+      (in_session ≡ true) × (o.sck ≡ rest mode) × (o.course ≡ Running)
       × (next_read mode s r o.kept o.so ≡ falling K s r o.kept)
 
   abbrev pub AtRest : Mode → AtLine K.Kept → Type 0

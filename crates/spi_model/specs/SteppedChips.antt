@@ -5,6 +5,7 @@ use Rattle.datasheet.specs.declared.sheet.Sheet.{Sheet}
 use Rattle.datasheet.specs.declared.level.Level.TheVariants.{HighZ}
 use Rattle.datasheet.specs.declared.sample.Sample.{Sample}
 use Rattle.datasheet.specs.Records.{Record}
+use Rattle.datasheet.specs.Courses.{runs}
 use Rattle.datasheet.specs.Chips.{PinState, deselected, selected}
 use Rattle.datasheet.specs.Calls.{ChipState}
 use Rattle.datasheet.specs.Kept.{bounded}
@@ -21,11 +22,11 @@ use Rattle.spi_model.specs.declared.bus_answer.BusAnswer.TheVariants.{Done, Read
 use Rattle.spi_model.specs.Lines.{AtLine, open_after, call_samples, byte_read, line_after}
 use Rattle.spi_model.specs.Meanings.{chip_at}
 
--- whether a byte can be taken at once: the chip is fitted, SCK rests low, HOLD is high, and the session has
--- whole bytes
+-- whether a byte can be taken at once: the chip is fitted, SCK rests low, and its session runs and has whole
+-- bytes
 abbrev pub ready_at : Bool → PinState Registers → Bool
 ready_at fitted deselected = false
-ready_at fitted (selected o) = fitted && (not o.sck && (o.hold && whole_bytes o.kept))
+ready_at fitted (selected o) = fitted && (not o.sck && (runs o.course && whole_bytes o.kept))
 
 abbrev pub ready : ChipState Registers → Bool
 ready c = ready_at c.fitted c.pins
@@ -71,7 +72,7 @@ module _ (wp : Bool) where
 
 -- ## The same at once
 
--- a fitted chip in a session, SCK low and HOLD high, at this moment
+-- a fitted chip in a session that runs, SCK low, at this moment
 abbrev pub settled_at : Sheet → Moment Registers → ChipState Registers
 settled_at s m = chip_at Mode0 s m m.so
 

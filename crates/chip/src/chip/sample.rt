@@ -3,12 +3,12 @@ ghost use Rattle.std.specs.Prelude.{◌≡◌, ◌≤◌, length};
 ghost use Rattle.datasheet.specs.Chips.{whole, turn, judged, output};
 ghost use Rattle.datasheet.specs.Calls.{so, put, sampled, answered};
 ghost use Rattle.datasheet.specs.Kept.{bounded};
-ghost use Rattle.chip_laws.specs.Laws.{Enough, RollsOver, StaysFitted};
+ghost use Rattle.chip_laws.specs.Laws.{Enough, RollsOver, SpoiledIsIdle, StaysFitted};
 ghost use Rattle.chip.specs.Views.{record_of, chip_of, pins_of};
 
 use super::Chip;
 use crate::session::Session;
-use datasheet::{Level, Refusal, Registers, Sample};
+use datasheet::{Course, Level, Refusal, Registers, Sample};
 
 // Each of these says for itself which chip it leaves (`sheet`, `lent`): a clause is what the next caller may rely on.
 impl Chip<'_> {
@@ -20,32 +20,35 @@ impl Chip<'_> {
         ensures cells { length self.new.memory.now ≡ length self.old.memory.now }
         ensures lent { self.new.memory.ghost_name ≡ self.old.memory.ghost_name }
     {
-        let (kept, so) = match (self.session, sample) {
+        let (course, kept, so) = match (self.session, sample) {
             // still deselected
             (None, Sample { cs: true, .. }) => return,
             // a session begins
-            (None, _) => (Registers::cleared(), Level::HighZ),
+            (None, _) => (
+                Course::Running.after(sample),
+                Registers::cleared(),
+                Level::HighZ,
+            ),
             // the session ends
             (Some(last), Sample { cs: true, .. }) => {
-                self.status.end(self.sheet, last.kept);
+                self.status.end(self.sheet, last);
                 self.session = None;
                 return;
             }
-            // a rise, with HOLD high in both: SI is taken
-            (Some(last), _) if last.hold && sample.hold && !last.sck && sample.sck => {
-                (self.take(last.kept, sample), last.so)
+            // a rise in a session that runs on: SI is taken
+            (Some(last), _) if last.course.runs() && sample.hold && !last.sck && sample.sck => {
+                (Course::Running, self.take(last.kept, sample), last.so)
             }
             // a fall: SO is set
-            (Some(last), _) if last.hold && sample.hold && last.sck && !sample.sck => {
-                (last.kept, self.show(last.kept))
+            (Some(last), _) if last.course.runs() && sample.hold && last.sck && !sample.sck => {
+                (Course::Running, last.kept, self.show(last.kept))
             }
             // no edge counts
-            (Some(last), _) => (last.kept, last.so),
+            (Some(last), _) => (last.course.after(sample), last.kept, last.so),
         };
-        let Sample { sck, hold, .. } = sample;
         self.session = Some(Session {
-            sck,
-            hold,
+            sck: sample.sck,
+            course,
             kept,
             so,
         });
@@ -56,7 +59,7 @@ impl Chip<'_> {
         ensures { result ≡ output (pins_of self.now.session) }
     {
         match self.session {
-            Some(Session { hold: true, so, .. }) => so,
+            Some(Session { course, so, .. }) if course.runs() => so,
             _ => Level::HighZ,
         }
     }
@@ -77,7 +80,7 @@ impl Chip<'_> {
 
     /// Puts a sample to the pins, by its byte, and answers what SO shows then. A byte with a bit 5, 6 or 7 is refused and
     /// leaves everything.
-    #[tactic(auto, using(crate::proofs::Laws::stays))]
+    #[tactic(auto, using(crate::proofs::Laws::stays, crate::proofs::Laws::idle))]
     pub fn sample(&mut self, byte: u8) -> Result<Level, Refusal>
         ensures answer { result ≡ answered bounded (chip_of self.old) byte }
         ensures state { chip_of self.new ≡ sampled bounded (chip_of self.old) byte }
@@ -86,6 +89,7 @@ impl Chip<'_> {
         ensures lent { self.new.memory.ghost_name ≡ self.old.memory.ghost_name }
         ensures enough { Enough }
         ensures rolls { RollsOver }
+        ensures idle { (SpoiledIsIdle whole) × (SpoiledIsIdle bounded) }
         ensures stays { (StaysFitted whole) × (StaysFitted bounded) }
     {
         let sample = Sample::try_from(byte)?;

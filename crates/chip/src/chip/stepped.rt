@@ -113,13 +113,8 @@ impl Chip<'_> {
         ensures lent { self.new.memory.ghost_name ≡ self.old.memory.ghost_name }
     {
         match self.session {
-            Some(
-                last @ Session {
-                    sck: false,
-                    hold: true,
-                    ..
-                },
-            ) if has_whole_bytes(last.kept) && self.is_fitted() => {
+            Some(last @ Session { sck: false, .. })
+                if last.course.runs() && has_whole_bytes(last.kept) && self.is_fitted() => {
                 let read = self.read_byte(last.kept, last.so);
                 let kept = self.take_byte(last.kept, wp, byte);
                 let so = self.show(kept);
