@@ -1,12 +1,12 @@
 -- What a shield shows, by the image below it.
-use Rattle.std.proofs.Common.{◌≡◌, ℕ, ◌+◌, ◌≤◌, Bool, true, false, cond, List, [], ◌∷◌, length, is_some, Some, None, Ok, Err, Option, Result, sym, refl, ap, ◌∙◌, arith, leb-true}
+use Rattle.std.proofs.Common.{◌≡◌, ℕ, ◌+◌, ◌≤◌, Bool, true, false, cond, leb, List, [], ◌∷◌, length, is_some, Some, None, Ok, Err, Option, Result, sym, refl, ap, ◌∙◌, arith, leb-true}
 use Rattle.std.proofs.lemmas.List.{length-take, length-drop}
 use Rattle.datasheet.specs.declared.refusal.Refusal.{Refusal}
 use Rattle.datasheet.specs.declared.refusal.Refusal.TheVariants.{Fenced}
 use Rattle.board_model.specs.declared.Cell.{Cell}
 use Rattle.board_model.specs.declared.Range.{Range}
 use Rattle.board_model.specs.Images.{Image, inside, part, bytes_of, first_fenced, fence_in}
-use Rattle.board_model.specs.Results.{fence_result, read_result, read_into, unless_fenced, write_result}
+use Rattle.board_model.specs.Results.{range_result, fence_result, read_result, read_into, unless_fenced, write_result}
 use Rattle.board_model.specs.Layers.{covered, shielded_from, shielded}
 use Rattle.board_model.proofs.Cells.{accepted_by, refused_by}
 use Rattle.board_shield.specs.Shields.{first_covered, earlier}
@@ -77,16 +77,30 @@ module _ (rs : List Range) where
       go None e = absurd (cc)
       go (Some x) e = refl
 
-  pub passed : {o : Option ℕ} (i : Image) (s : ℕ) (bs : List ℕ) → Ok o ≡ fence_result (shielded rs i) s (length bs) → false ≡ is_some o →
-      write_result (shielded rs i) s bs ≡ write_result i s bs
-  passed i s bs told none =
+  -- a write, by the range and by the shield's own ranges: they refuse, or the board below decides
+  pub outside : (i : Image) (s : ℕ) (bs : List ℕ) (size : ℕ) (x : Refusal) → size ≡ length i → ◌≡◌ {A = Result (Unit {0}) Refusal} (Err x) (range_result size s (length bs)) →
+      write_result (shielded rs i) s bs ≡ Err x
+  outside i s bs size x is told =
+      let t = refused_by (leb (s + length bs) size) tt told in
+      write_refused i s bs x (rw (inside_shield rs i s (length bs), sym is, t.0, t.1) refl)
+
+  pub own_fenced : (i : Image) (s : ℕ) (bs : List ℕ) → inside i s (length bs) ≡ true → is_some (first_covered rs s (length bs)) ≡ true →
+      write_result (shielded rs i) s bs ≡ Err Fenced
+  own_fenced i s bs t some =
       let n = length bs in
-      let t = accepted_by (inside (shielded rs i) s n) told in
-      let u : inside i s n ≡ true = sym (inside_shield rs i s n) ∙ t.0 in
-      let f = fence_in_range i s n u in
-      rw (t.0, u, f) (go (first_covered rs s n) (fence_in i s n) (none ∙ ap is_some (t.1 ∙ f)))
+      let told : Ok (fence_in (shielded rs i) s n) ≡ fence_result (shielded rs i) s n = rw (inside_shield rs i s n, t) refl in
+      fenced i s bs told (go (first_covered rs s n) (fence_in i s n) some ∙ ap is_some (sym (fence_in_range i s n t)))
     where
-      go : (x y : Option ℕ) → false ≡ is_some (earlier x y) → unless_fenced (earlier x y) ≡ unless_fenced y
+      go : (x y : Option ℕ) → is_some x ≡ true → true ≡ is_some (earlier x y)
+      go None y e = absurd (cc)
+      go (Some x) None e = refl
+      go (Some x) (Some y) e = refl
+
+  pub passed : (i : Image) (s : ℕ) (bs : List ℕ) → inside i s (length bs) ≡ true → is_some (first_covered rs s (length bs)) ≡ false →
+      write_result (shielded rs i) s bs ≡ write_result i s bs
+  passed i s bs t none =
+      rw (inside_shield rs i s (length bs), t, fence_in_range i s (length bs) t) (go (first_covered rs s (length bs)) (fence_in i s (length bs)) none)
+    where
+      go : (x y : Option ℕ) → is_some x ≡ false → unless_fenced (earlier x y) ≡ unless_fenced y
       go None y e = refl
-      go (Some x) None e = absurd (cc)
-      go (Some x) (Some y) e = absurd (cc)
+      go (Some x) y e = absurd (cc)

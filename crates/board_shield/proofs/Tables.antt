@@ -1,10 +1,10 @@
 -- The table of a shield: a range more, a range widened, and the first place that a range has.
-use Rattle.std.proofs.Common.{◌≡◌, ℕ, zero, suc, ◌+◌, ◌-◌, ◌<◌, ◌≤◌, min, Bool, true, false, cond, ◌||◌, ◌&&◌, ltb, ◌⊎◌, List, [], ◌∷◌, length, get_or, take, set, max, fold, Some, None, Option, sym, refl, ap, ◌∙◌, inl, inr, arith, lt-ltb}
+use Rattle.std.proofs.Common.{◌≡◌, ℕ, zero, suc, ◌+◌, ◌-◌, ◌<◌, ◌≤◌, min, Bool, true, false, cond, ◌||◌, ◌&&◌, ltb, ◌⊎◌, List, [], ◌∷◌, length, get_or, take, set, max, fold, is_some, Some, None, Option, sym, refl, ap, ◌∙◌, inl, inr, arith, lt-ltb}
 use Rattle.std.proofs.Math.Seq.{take-set-lt}
 use Rattle.std.proofs.lemmas.Bool.{cases_lt}
 use Rattle.std.proofs.Math.Bool.{or-false}
 use Rattle.std.specs.Bool.{then_some}
-use Rattle.std.specs.List.{filter_map, reduce, cons_option}
+use Rattle.std.specs.List.{list_any, filter_map, reduce, cons_option}
 use Rattle.std.proofs.lemmas.List.{length-take-le, get_or-take}
 use Rattle.board_model.specs.declared.Range.{Range}
 use Rattle.board_model.specs.Layers.{has, covered, widened}
@@ -112,3 +112,16 @@ least_covered (r ∷ rs) s n =
     least_earlier (first_covered (r ∷ []) s n) (filter_map (λ r. first_covered (r ∷ []) s n) rs)
     ∙ ap (earlier (first_covered (r ∷ []) s n)) (least_covered rs s n)
     ∙ sym (covered_earlier r rs n s)
+
+-- one of them has a place if there is a first
+pub any_covered : (rs : List Range) (s n : ℕ) → list_any (λ (r : Range). is_some (first_covered (r ∷ []) s n)) rs ≡ is_some (first_covered rs s n)
+any_covered [] s n = ap is_some (sym (none_found [] n s (λ place from to. refl)))
+any_covered (r ∷ rs) s n =
+    ap (λ (b : Bool). is_some (first_covered (r ∷ []) s n) || b) (any_covered rs s n)
+    ∙ either (first_covered (r ∷ []) s n) (first_covered rs s n)
+    ∙ ap is_some (sym (covered_earlier r rs n s))
+  where
+    either : (a b : Option ℕ) → (is_some a || is_some b) ≡ is_some (earlier a b)
+    either None b = refl
+    either (Some x) None = refl
+    either (Some x) (Some y) = refl

@@ -1,4 +1,4 @@
--- What stands below a shield after a write that it let through.
+-- What stands below a shield after a write, one that it let through and one that it refused.
 use Rattle.std.proofs.Common.{◌≡◌, ℕ, List, Ok, Err, Result, ap, ◌∙◌}
 use Rattle.datasheet.specs.declared.refusal.Refusal.{Refusal}
 use Rattle.board_model.specs.declared.Range.{Range}
@@ -18,3 +18,9 @@ module _ {G : Type 0} (put : G → ℕ → List ℕ → G) (rs : List Range) (i 
           (if_accepted r (shield_put put (record { ranges = rs; below = g }) s bs) (record { ranges = rs; below = g }))
       go (Ok u) e = λ j. record { ranges = ranges j; below = (e ∙ ap (λ x. put x s bs) same) j }
       go (Err x) e = λ j. record { ranges = ranges j; below = (e ∙ same) j }
+
+  -- and after one that it refused
+  pub shield_kept : {x : Refusal} → write_result (shielded rs i) s bs ≡ Err x →
+      ◌≡◌ {A = ShieldBeneath G} (record { ranges = rs'; below = g' })
+      (if_accepted (write_result (shielded rs i) s bs) (shield_put put (record { ranges = rs; below = g }) s bs) (record { ranges = rs; below = g }))
+  shield_kept refused = rw refused (λ j. record { ranges = ranges j; below = same j })

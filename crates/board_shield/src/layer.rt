@@ -11,7 +11,7 @@ ghost use Rattle.board_model.proofs.Shields.{shield_few};
 ghost use Rattle.board_model.proofs.ShieldBeneath.{shield_standing};
 
 use crate::ranges::Ranges;
-use board::{Board, ReadBoard};
+use board::{Board, ReadBoard, check_range};
 use board_model::Range;
 use datasheet::Refusal;
 
@@ -106,7 +106,14 @@ impl<B: Board> Board for Shield<B> {
     }
 
     fn write(&mut self, start: usize, bytes: &[u8]) -> Result<(), Refusal> {
-        if self.first_fence(start, bytes.len())?.is_some() {
+        // The board below asks for its own fences when it writes. Were it asked here too, each shield of a pile would go through
+        // all that lie below it.
+        check_range(start, bytes.len(), self.below.size())?;
+        let asked = Range {
+            start,
+            count: bytes.len(),
+        };
+        if self.ranges.has_any(asked) {
             return Err(Refusal::Fenced);
         }
         self.below.write(start, bytes)

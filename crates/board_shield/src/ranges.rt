@@ -34,7 +34,7 @@ fn widen_range(range: &mut Range, by: usize)
 }
 
 impl Ranges {
-    ghost use Rattle.std.specs.Prelude.{◌++◌, if◌then◌else◌, Ok, Err, nat_lt};
+    ghost use Rattle.std.specs.Prelude.{◌++◌, if◌then◌else◌, is_some, Ok, Err, nat_lt};
     ghost use Rattle.datasheet.specs.declared.refusal.Refusal.TheVariants.{OutOfRange, ShieldFull};
     ghost use Rattle.board_model.specs.Layers.{stopped};
     ghost use Rattle.board_shield.specs.Shields.{widened_at, first_covered};
@@ -101,5 +101,14 @@ impl Ranges {
             .iter()
             .filter_map(|range| first_shared(range, &asked))
             .min()
+    }
+
+    /// Whether a range has one of the places asked.
+    pub(crate) fn has_any(&self, asked: Range) -> bool
+        ensures { result ≡ is_some (first_covered (ranges_of self.now) asked.start asked.count) }
+    {
+        self.in_use()
+            .iter()
+            .any(|range| first_shared(range, &asked).is_some())
     }
 }

@@ -8,12 +8,13 @@ use std::io;
 use std::io::{Read, Write};
 
 fn main(rt: HostRuntime) -> io::Result<()> {
-    let mut input = Vec::new(rt.alloc());
-    // `usize` to `u64` has no `From`
-    rt.stdin()
-        .take(SCRIPT_BYTES as u64)
-        .read_to_end(&mut input)?;
+    let mut input = [0; SCRIPT_BYTES];
+    // into a buffer of its own size, by reads that ask for all that is left: no memory can run out, and a message that is read at
+    // once loses no byte; `usize` to `u64` has no `From`
+    let mut room = &mut input[..];
+    let read = io::copy(&mut rt.stdin().take(SCRIPT_BYTES as u64), &mut room)?;
+    let input = &input[..SCRIPT_BYTES.min(read as usize)];
     let mut bytes = [0; ANSWER_BYTES];
-    let length = output(Target::Pins, &input, &mut bytes);
+    let length = output(Target::Pins, input, &mut bytes);
     rt.stdout().write_all(&bytes[..length])
 }

@@ -1,33 +1,70 @@
-use Rattle.std.proofs.Common.{sym, ap, ◌∙◌}
+use Rattle.std.proofs.Common.{◌+◌, Err, leb, length, sym, refl, ap, ◌∙◌}
+use Rattle.std.proofs.lemmas.Result.{err_from_is_err_and}
 use Rattle.board_model.specs.Images.{Image}
 use Rattle.board_model.specs.Results.{write_result}
 use Rattle.board_model.specs.Layers.{shielded}
+use Rattle.board_model.proofs.Cells.{range_inside}
 use Rattle.board_model.proofs.Standing.{image_written}
-use Rattle.board_shield.specs.Tables.{ranges_of}
-use Rattle.board_shield.proofs.Covers.{passed}
 use Rattle.board_model.proofs.ShieldBeneath.{shield_standing}
-use Rattle.board_shield.proofs.Through.{shield_left}
+use Rattle.board_shield.specs.Tables.{ranges_of}
+use Rattle.board_shield.proofs.Covers.{outside, own_fenced, passed}
+use Rattle.board_shield.proofs.Through.{shield_left, shield_kept}
 use Rattle.board_shield.proofs.layer.ShieldBoard.write.Goals as goal
 
-pub returns-clause-answer : goal.returns-clause-answer
-returns-clause-answer g c =
-    let rs = ranges_of c.args.self.now.ranges in
-    let i = g.B.ReadBoard.image c.args.self.now.below in
-    let did = c.in_ok-first_fence.ensures in
-    let o = passed rs i c.args.start c.args.bytes.now did.answer c.if-is_some.ensures in
-    let shown = g.B.ReadBoard.shown _ ∙ ap (λ b. g.B.ReadBoard.shows b.below) did.beneath ∙ sym (g.B.ReadBoard.shown c.args.self.now.below) in
-    c.write.ensures.answer ∙ ap (λ (j : Image). write_result j c.args.start c.args.bytes.now) shown ∙ sym o
-
-pub returns-clause-beneath : goal.returns-clause-beneath
-returns-clause-beneath g c =
-    let rs = ranges_of c.args.self.now.ranges in
-    let i = g.B.ReadBoard.image c.args.self.now.below in
-    let did = c.in_ok-first_fence.ensures in
-    let o = passed rs i c.args.start c.args.bytes.now did.answer c.if-is_some.ensures in
-    let shown = g.B.ReadBoard.shown _ ∙ ap (λ b. g.B.ReadBoard.shows b.below) did.beneath ∙ sym (g.B.ReadBoard.shown c.args.self.now.below) in
-    shield_left g.B.ReadBoard.put rs i c.args.start c.args.bytes.now (ap (λ b. b.ranges) did.beneath) (ap (λ b. b.below) did.beneath) o shown c.write.ensures.beneath
-
-pub returns-clause-after : goal.returns-clause-after
-returns-clause-after g c =
+-- the range does not lie in the board below
+pub returns-in_err-check_range : goal.returns-in_err-check_range
+returns-in_err-check_range g c =
     let w = c.args.self.now in
-    image_written (shield_standing g.B.ReadBoard.standing) c.args.start c.args.bytes.now (ap (shielded (ranges_of w.ranges)) (g.B.ReadBoard.shown w.below)) (ap (shielded _) (g.B.ReadBoard.shown _)) (returns-clause-beneath g c)
+    let rs = ranges_of w.ranges in
+    let i = g.B.ReadBoard.image w.below in
+    let at = c.args.start in
+    let bs = c.args.bytes.now in
+    let did = c.size.ensures in
+    let p = err_from_is_err_and c.from_residual.result c.from_residual.ensures.1 in
+    let refused = outside rs i at bs c.size.result _ did.answer c.in_err-check_range.ensures in
+    let below = shield_kept g.B.ReadBoard.put rs i at bs refl did.beneath refused in
+    record {
+      answer = p.1 ∙ ap Err p.2 ∙ sym refused;
+      after = image_written (shield_standing g.B.ReadBoard.standing) at bs (ap (shielded rs) (g.B.ReadBoard.shown w.below)) (ap (shielded rs) (g.B.ReadBoard.shown _)) below;
+      beneath = below;
+      lent = λ j. (rs, did.lent j);
+    }
+
+-- a range of the shield has one of the cells
+pub returns-then-has_any : goal.returns-then-has_any
+returns-then-has_any g c =
+    let w = c.args.self.now in
+    let rs = ranges_of w.ranges in
+    let i = g.B.ReadBoard.image w.below in
+    let at = c.args.start in
+    let bs = c.args.bytes.now in
+    let did = c.size.ensures in
+    let t = ap (leb (at + length bs)) (sym did.answer) ∙ range_inside c.size.result at (length bs) c.in_ok-check_range.ensures in
+    let refused = own_fenced rs i at bs t (sym c.has_any.ensures ∙ c.if-has_any.true) in
+    let below = shield_kept g.B.ReadBoard.put rs i at bs refl did.beneath refused in
+    record {
+      answer = sym refused;
+      after = image_written (shield_standing g.B.ReadBoard.standing) at bs (ap (shielded rs) (g.B.ReadBoard.shown w.below)) (ap (shielded rs) (g.B.ReadBoard.shown _)) below;
+      beneath = below;
+      lent = λ j. (rs, did.lent j);
+    }
+
+-- the board below decides
+pub returns : goal.returns
+returns g c =
+    let w = c.args.self.now in
+    let rs = ranges_of w.ranges in
+    let i = g.B.ReadBoard.image w.below in
+    let at = c.args.start in
+    let bs = c.args.bytes.now in
+    let did = c.size.ensures in
+    let wrote = c.write.ensures in
+    let t = ap (leb (at + length bs)) (sym did.answer) ∙ range_inside c.size.result at (length bs) c.in_ok-check_range.ensures in
+    let through = passed rs i at bs t (sym c.has_any.ensures ∙ c.if-has_any.false) in
+    let below = shield_left g.B.ReadBoard.put rs i at bs refl did.beneath through did.same wrote.beneath in
+    record {
+      answer = wrote.answer ∙ ap (λ (j : Image). write_result j at bs) did.same ∙ sym through;
+      after = image_written (shield_standing g.B.ReadBoard.standing) at bs (ap (shielded rs) (g.B.ReadBoard.shown w.below)) (ap (shielded rs) (g.B.ReadBoard.shown _)) below;
+      beneath = below;
+      lent = λ j. (rs, (wrote.lent ∙ did.lent) j);
+    }
