@@ -1,7 +1,7 @@
-ghost use Rattle.std.specs.Prelude.{◌≡◌, List, [], ◌∷◌, ◌++◌, length, if◌then◌else◌, Ok, Err, nat_lt};
+ghost use Rattle.std.specs.Prelude.{◌≡◌, [], ◌∷◌, ◌++◌, length, if◌then◌else◌, Ok, Err, nat_lt};
 ghost use Rattle.std.proofs.Common.{ap};
 ghost use Rattle.datasheet.specs.declared.refusal.Refusal.TheVariants.{OutOfRange, ShieldFull};
-ghost use Rattle.board_model.specs.declared.Range.{Range};
+ghost use Rattle.board_shield.specs.declared.ranges.Ranges.{Ranges};
 ghost use Rattle.board_model.specs.Layers.{stopped, shielded};
 ghost use Rattle.board_shield.specs.Shields.{widened_at, earlier};
 ghost use Rattle.board_shield.specs.Tables.{ranges_of};
@@ -68,7 +68,7 @@ impl<B: ReadBoard> ReadBoard for Shield<B> {
 
     ghost few = { λ s. shield_few (ranges_of s.ranges) (B.image s.below) (B.few s.below) };
 
-    ghost Lent = { List Range × B.Lent };
+    ghost Lent = { Ranges × B.Lent };
 
     ghost lent = { shield_lent B.lent };
 

@@ -9,8 +9,8 @@ use std::io::{Read, Write};
 
 fn main(rt: HostRuntime) -> io::Result<()> {
     let mut input = [0; SCRIPT_BYTES];
-    // into a buffer of its own size, by reads that ask for all that is left: no memory can run out, and a message that is read at
-    // once loses no byte; `usize` to `u64` has no `From`
+    // An array, and reads that ask for all that is left of it: no memory can run out, and a message that fits loses no byte.
+    // `usize` to `u64` has no `From`.
     let mut room = &mut input[..];
     let read = io::copy(&mut rt.stdin().take(SCRIPT_BYTES as u64), &mut room)?;
     let input = &input[..SCRIPT_BYTES.min(read as usize)];

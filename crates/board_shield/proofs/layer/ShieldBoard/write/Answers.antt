@@ -27,7 +27,7 @@ returns-in_err-check_range g c =
       answer = p.1 ∙ ap Err p.2 ∙ sym refused;
       after = image_written (shield_standing g.B.ReadBoard.standing) at bs (ap (shielded rs) (g.B.ReadBoard.shown w.below)) (ap (shielded rs) (g.B.ReadBoard.shown _)) below;
       beneath = below;
-      lent = λ j. (rs, did.lent j);
+      lent = λ j. (w.ranges, did.lent j);
     }
 
 -- a range of the shield has one of the cells
@@ -46,7 +46,7 @@ returns-then-has_any g c =
       answer = sym refused;
       after = image_written (shield_standing g.B.ReadBoard.standing) at bs (ap (shielded rs) (g.B.ReadBoard.shown w.below)) (ap (shielded rs) (g.B.ReadBoard.shown _)) below;
       beneath = below;
-      lent = λ j. (rs, did.lent j);
+      lent = λ j. (w.ranges, did.lent j);
     }
 
 -- the board below decides
@@ -66,5 +66,5 @@ returns g c =
       answer = wrote.answer ∙ ap (λ (j : Image). write_result j at bs) did.same ∙ sym through;
       after = image_written (shield_standing g.B.ReadBoard.standing) at bs (ap (shielded rs) (g.B.ReadBoard.shown w.below)) (ap (shielded rs) (g.B.ReadBoard.shown _)) below;
       beneath = below;
-      lent = λ j. (rs, (wrote.lent ∙ did.lent) j);
+      lent = λ j. (w.ranges, (wrote.lent ∙ did.lent) j);
     }
